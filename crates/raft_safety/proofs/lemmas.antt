@@ -8,6 +8,7 @@ pub mod JointLemmas
 pub mod ApplyLemmas
 pub mod AppendLemmas
 pub mod ExecutionLemmas
+pub mod RuleLemmas
 pub mod TestLemmas
 pub mod TraceLemmas
 pub mod CheckedLogLemmas

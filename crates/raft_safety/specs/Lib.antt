@@ -9,8 +9,8 @@ pub mod Ranks
 pub mod Execution
 pub mod AppendEntries
 pub mod Trace
+pub mod Inner
 pub mod Scenarios
-pub mod CheckerState
 pub mod Checker
 pub mod Memberships
 pub mod Merge

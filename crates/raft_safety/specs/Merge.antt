@@ -1,33 +1,10 @@
 -- Lists of recorded events without an order between them, and the traces that interleave them.
 -- `placed` has a number for each list: so many of its first events are placed in the trace.
-use Rattle.std.specs.Prelude.{
-  ◌≡◌,
-  ◌≢◌,
-  ◌⊎◌,
-  ◌+◌,
-  ◌<◌,
-  ◌≤◌,
-  ℕ,
-  true,
-  false,
-  Some,
-  None,
-  Option,
-  Result,
-  Bool,
-  List,
-  [],
-  ◌∷◌,
-  length,
-  map,
-  set,
-  replicate,
-  slice_get,
-}
+use Rattle.std.specs.Prelude.{◌≡◌, ◌≢◌, ◌⊎◌, ◌+◌, ◌<◌, ◌≤◌, ℕ, true, false, Some, None, Option, Result, Bool, List, [], ◌∷◌, length, map, set, replicate, slice_get}
 use Rattle.std.specs.Result.{MatchResult}
 use Rattle.std.specs.Global.{Vec}
-use Rattle.raft_safety.specs.Trace.{TraceEvent, Tests, AreExact, IsSafeTrace, TermsHaveRanks, are_allowed}
-use Rattle.raft_safety.specs.Checker.{HasSeen, broken_rule, event_of}
+use Rattle.raft_safety.specs.Trace.{TraceEvent, Tests, AreExact, IsSafeTrace, TermsHaveRanks, are_allowed, broken_rule}
+use Rattle.raft_safety.specs.Checker.{HasSeen, event_of}
 use Rattle.raft_safety.specs.declared.checker.Checker.{Checker}
 use Rattle.raft_safety.specs.declared.checker.violation.Violation.{Violation}
 use Rattle.raft_safety.specs.declared.checker.violation.Violation.TheVariants.{OutOfMemory, Rule as BreaksRule}

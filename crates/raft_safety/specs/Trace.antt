@@ -1,40 +1,15 @@
 -- Recorded traces of a cluster: the history that a trace makes, and the test that each event of it was
 -- allowed after the earlier ones. A clause at `x ∷ es` is about all events that the clauses above it do
 -- not name.
-use Rattle.std.specs.Prelude.{
-  ◌≡◌,
-  ◌⊎◌,
-  ℕ,
-  Bool,
-  true,
-  false,
-  not,
-  ◌&&◌,
-  ◌||◌,
-  nat_lt,
-  nat_le,
-  nat_eq,
-  min,
-  max,
-  if◌then◌else◌,
-  Option,
-  Some,
-  None,
-  is_none,
-  List,
-  [],
-  ◌∷◌,
-  ◌++◌,
-  length,
-  take,
-  drop,
-}
+use Rattle.std.specs.Prelude.{◌≡◌, ◌⊎◌, ℕ, Bool, true, false, not, ◌&&◌, ◌||◌, nat_lt, nat_le, nat_eq, min, max, if◌then◌else◌, Option, Some, None, is_none, List, [], ◌∷◌, ◌++◌, length, take, drop}
 use Rattle.raft_safety.specs.Log.{Entry, IsPrefix, last_term}
 use Rattle.raft_safety.specs.Events.{Event, GrantVote, Append, Ack, Restart, History, term_after, log_after}
 use Rattle.raft_safety.specs.Configs.{effective_config, is_quorum, QuorumsIntersect}
 use Rattle.raft_safety.specs.Ranks.{IsAmong}
 use Rattle.raft_safety.specs.Safety.{IsSafe}
 use Rattle.raft_safety.specs.Execution.{IsExecution}
+use Rattle.raft_safety.specs.declared.rule.Rule.{Rule}
+use Rattle.raft_safety.specs.declared.rule.Rule.TheVariants.{PassedTerm, CampaignedTwice, NoCampaign, OwnCandidate, CandidateBehind, NotElected, MissingEntries, DropsMatching, ForeignEntries, TermNotReached, NotWritten, NotKept, LostAcked, OtherTerm, ApartConfigs, ApartQuorums, EarlyConfig, EarlierTerm, CountedEarly, NoQuorum, NotAcked, NotCommitted}
 
 -- a recorded event. Events of different servers are in one order, in which an event comes after those
 -- that it depends on. A trace is a list of them, the latest first
@@ -208,6 +183,10 @@ module _ {T ID D M : Type 0} (k : Tests T ID D M) where
 
 -- ---- the test of a trace
 
+-- the rule is broken unless the test holds; then a later one may be
+abbrev pub unless : Bool → Rule → Option Rule → Option Rule
+unless holds rule rest = if holds then rest else Some rule
+
 module _ {T ID D M : Type 0} (k : Tests T ID D M) where
   -- a set is a quorum of the config in effect in a log
   abbrev pub is_quorum_of_log : List (Entry T D) → (ID → Bool) → Bool
@@ -225,14 +204,6 @@ module _ {T ID D M : Type 0} (k : Tests T ID D M) where
       has_voted k t c (events_in k es c)
       && is_quorum_of_log (candidate_log_in k es t c) (λ v. has_voted k t c (events_in k es v))
 
-  -- a leader's first n entries are committed, by a quorum of the config after its first m entries
-  abbrev pub is_committed : List (TraceEvent T ID D) → T → ID → ℕ → ℕ → Bool
-  is_committed es t c n m =
-      is_elected es t c && (nat_lt (length (candidate_log_in k es t c)) n && (nat_le n m
-      && (nat_le m (length (leader_log_in k es t c))
-      && is_quorum_of_log (take m (leader_log_in k es t c))
-      (λ v. has_acked k t c n (events_in k es v)))))
-
   -- the leader of this term, whose log is this now, has recorded a commit after which no entry of its
   -- log holds a config
   abbrev pub is_config_committed : T → ID → List (Entry T D) → List (TraceEvent T ID D) → Bool
@@ -249,39 +220,57 @@ module _ {T ID D M : Type 0} (k : Tests T ID D M) where
       || is_known_committed r p es
   is_known_committed r p (x ∷ es) = is_known_committed r p es
 
-  -- a leader may append an entry that holds this config, if it holds one
-  abbrev pub may_propose : List (TraceEvent T ID D) → T → ID → Option M → Bool
-  may_propose es t c None = true
-  may_propose es t c (Some m) =
-      k.intersect (effective_config k.config_of k.initial (leader_log_in k es t c)) m
-      && (k.intersect m m && is_config_committed t c (leader_log_in k es t c) es)
+  -- the first rule that a leader breaks by an entry that holds this config, if it holds one
+  abbrev pub proposal_rule : List (TraceEvent T ID D) → T → ID → Option M → Option Rule
+  proposal_rule es t c None = None
+  proposal_rule es t c (Some m) =
+      unless (k.intersect (effective_config k.config_of k.initial (leader_log_in k es t c)) m) ApartConfigs
+      (unless (k.intersect m m) ApartQuorums
+      (unless (is_config_committed t c (leader_log_in k es t c) es) EarlyConfig None))
 
-  -- an event is allowed after the earlier ones
+  -- the first rule that an event breaks after the earlier ones: rules about its leader come first
+  abbrev pub broken_rule : TraceEvent T ID D → List (TraceEvent T ID D) → Option Rule
+  broken_rule (Campaigned c t) es =
+      unless (not (has_campaigned t c es)) CampaignedTwice
+      (unless (nat_lt (term_in k es c) (k.rank t)) PassedTerm None)
+  broken_rule (Granted s t c) es =
+      unless (has_campaigned t c es) NoCampaign
+      (unless (nat_lt (term_in k es s) (k.rank t)) PassedTerm
+      (unless (not (k.same_id c s)) OwnCandidate
+      (unless (is_up_to_date k (candidate_log_in k es t c) (log_in k es s)) CandidateBehind None)))
+  broken_rule (Appended s t c n sent) es =
+      unless (is_elected es t c) NotElected
+      (unless (nat_le (term_in k es s) (k.rank t)) PassedTerm
+      (unless (nat_le n (length (log_in k es s))) MissingEntries
+      (unless (is_prefix k (common_prefix k (log_in k es s) (leader_log_in k es t c))
+      (take n (log_in k es s) ++ sent)) DropsMatching
+      (unless (is_prefix k (take n (log_in k es s) ++ sent) (log_in k es s)
+      || is_prefix k (take n (log_in k es s) ++ sent) (leader_log_in k es t c)) ForeignEntries None))))
+  broken_rule (Acked s t c n) es =
+      unless (is_elected es t c) NotElected
+      (unless (nat_le (k.rank t) (term_in k es s)) TermNotReached
+      (unless (nat_le n (length (leader_log_in k es t c))) NotWritten
+      (unless (has_kept k (k.rank t) (take n (leader_log_in k es t c)) (events_in k es s)) NotKept None)))
+  broken_rule (Restarted s n) es =
+      unless (nat_le (durable k (events_in k es s)) n) LostAcked
+      (unless (nat_le n (length (log_in k es s))) MissingEntries None)
+  broken_rule (Wrote c t e) es =
+      unless (is_elected es t c) NotElected
+      (unless (k.same_term e.term t) OtherTerm (proposal_rule es t c (k.config_of e.content)))
+  broken_rule (Committed c t n m) es =
+      unless (is_elected es t c) NotElected
+      (unless (nat_lt (length (candidate_log_in k es t c)) n) EarlierTerm
+      (unless (nat_le n m) CountedEarly
+      (unless (nat_le m (length (leader_log_in k es t c))) NotWritten
+      (unless (is_quorum_of_log (take m (leader_log_in k es t c))
+      (λ v. has_acked k t c n (events_in k es v))) NoQuorum None))))
+  broken_rule (Applied s t c n) es =
+      unless (has_acked k t c n (events_in k es s)) NotAcked
+      (unless (is_known_committed (k.rank t) (take n (leader_log_in k es t c)) es) NotCommitted None)
+
+  -- an event is allowed after the earlier ones if it breaks no rule
   abbrev pub is_allowed : TraceEvent T ID D → List (TraceEvent T ID D) → Bool
-  is_allowed (Campaigned c t) es =
-      nat_lt (term_in k es c) (k.rank t) && not (has_campaigned t c es)
-  is_allowed (Granted s t c) es =
-      nat_lt (term_in k es s) (k.rank t) && (has_campaigned t c es && (not (k.same_id c s)
-      && is_up_to_date k (candidate_log_in k es t c) (log_in k es s)))
-  is_allowed (Appended s t c n sent) es =
-      nat_le (term_in k es s) (k.rank t) && (is_elected es t c
-      && (nat_le n (length (log_in k es s))
-      && (is_prefix k (common_prefix k (log_in k es s) (leader_log_in k es t c))
-      (take n (log_in k es s) ++ sent)
-      && (is_prefix k (take n (log_in k es s) ++ sent) (log_in k es s)
-      || is_prefix k (take n (log_in k es s) ++ sent) (leader_log_in k es t c)))))
-  is_allowed (Acked s t c n) es =
-      nat_le (k.rank t) (term_in k es s) && (is_elected es t c
-      && (nat_le n (length (leader_log_in k es t c))
-      && has_kept k (k.rank t) (take n (leader_log_in k es t c)) (events_in k es s)))
-  is_allowed (Restarted s n) es =
-      nat_le (durable k (events_in k es s)) n && nat_le n (length (log_in k es s))
-  is_allowed (Wrote c t e) es =
-      is_elected es t c && (k.same_term e.term t && may_propose es t c (k.config_of e.content))
-  is_allowed (Committed c t n m) es = is_committed es t c n m
-  is_allowed (Applied s t c n) es =
-      has_acked k t c n (events_in k es s)
-      && is_known_committed (k.rank t) (take n (leader_log_in k es t c)) es
+  is_allowed e es = is_none (broken_rule e es)
 
   -- quorums of the initial config intersect, and each event is allowed after the earlier ones
   abbrev pub are_allowed : List (TraceEvent T ID D) → Bool

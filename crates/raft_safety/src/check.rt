@@ -1,7 +1,7 @@
 //! Checking a whole trace.
 ghost use Rattle.std.specs.Prelude.{◌≡◌, true, IfErr, OnOk};
 ghost use Rattle.raft_safety.specs.Trace.{AreExact, IsSafeTrace, TermsHaveRanks, are_allowed};
-ghost use Rattle.raft_safety.specs.Checker.{IsFirstRefused, RulesAreTheTest, tests_of, trace_of};
+ghost use Rattle.raft_safety.specs.Checker.{IsFirstRefused, tests_of, trace_of};
 
 use crate::checker::{Checker, Configs, Violation};
 use crate::event::Event;
@@ -34,20 +34,13 @@ pub fn check<T: Term, N: Copy + Eq, D: Copy + Eq, C: Configs<N, D> + Drop>(
     configs: C,
     events: &[Event<T, N, D>],
 ) -> Result<(), Refused>
-    ensures allowed { OnOk result (AreExact (tests_of T.rank T.eq N.eq D.eq (C.holds_config configs)
-        (C.has_quorum configs) (C.intersects configs)) →
-        are_allowed (tests_of T.rank T.eq N.eq D.eq (C.holds_config configs)
-        (C.has_quorum configs) (C.intersects configs)) (trace_of events.now) ≡ true) }
-    ensures safe { OnOk result (AreExact (tests_of T.rank T.eq N.eq D.eq (C.holds_config configs)
-        (C.has_quorum configs) (C.intersects configs)) →
-        TermsHaveRanks (tests_of T.rank T.eq N.eq D.eq (C.holds_config configs)
-        (C.has_quorum configs) (C.intersects configs)) (trace_of events.now) →
-        IsSafeTrace (tests_of T.rank T.eq N.eq D.eq (C.holds_config configs)
-        (C.has_quorum configs) (C.intersects configs)) (trace_of events.now)) }
-    ensures refused { IfErr result (λ r. AreExact (tests_of T.rank T.eq N.eq D.eq
-        (C.holds_config configs) (C.has_quorum configs) (C.intersects configs)) →
-        IsFirstRefused (tests_of T.rank T.eq N.eq D.eq (C.holds_config configs)
-        (C.has_quorum configs) (C.intersects configs)) events.now r.event r.violation) }
+    ensures allowed { OnOk result (AreExact (tests_of T.Term N.PartialEq D.PartialEq C.Configs configs) →
+        are_allowed (tests_of T.Term N.PartialEq D.PartialEq C.Configs configs) (trace_of events.now) ≡ true) }
+    ensures safe { OnOk result (AreExact (tests_of T.Term N.PartialEq D.PartialEq C.Configs configs) →
+        TermsHaveRanks (tests_of T.Term N.PartialEq D.PartialEq C.Configs configs) (trace_of events.now) →
+        IsSafeTrace (tests_of T.Term N.PartialEq D.PartialEq C.Configs configs) (trace_of events.now)) }
+    ensures refused { IfErr result (λ r. AreExact (tests_of T.Term N.PartialEq D.PartialEq C.Configs configs) →
+        IsFirstRefused (tests_of T.Term N.PartialEq D.PartialEq C.Configs configs) events.now r.event r.violation) }
 {
     let mut checker = match Checker::new(alloc, configs) {
         Ok(checker) => checker,
@@ -71,8 +64,3 @@ pub fn check<T: Term, N: Copy + Eq, D: Copy + Eq, C: Configs<N, D> + Drop>(
     }
     Ok(())
 }
-
-/// An event breaks no rule exactly if it is allowed after the earlier ones.
-pub fn rules_are_the_test<T, ID, D, M>()
-    ensures { RulesAreTheTest T ID D M }
-{}

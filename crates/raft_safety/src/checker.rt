@@ -1,7 +1,7 @@
 //! The checker of recorded events: whether each event was allowed by what came before.
 ghost use Rattle.std.specs.Prelude.{◌≡◌, ◌<◌, ◌&&◌, IfOk, IfSome, OnErr, length};
 ghost use Rattle.std.specs.List.{list_any, position};
-ghost use Rattle.raft_safety.specs.CheckerState.{HasPlace, knows, same_entry_by};
+ghost use Rattle.raft_safety.specs.Inner.CheckerState.{HasPlace, knows, same_entry_by};
 ghost use Rattle.raft_safety.specs.Checker.{Answers, Begins, Records, configs_of, event_of, tests_of};
 ghost use Rattle.raft_safety.specs.Trace.{Campaigned, Granted, Appended, Acked, Restarted, Wrote, Committed, Applied};
 
@@ -46,8 +46,7 @@ impl<T: Term, N: Copy + Eq, D: Copy + Eq, C: Configs<N, D> + Drop> Checker<T, N,
     /// The rule `InitialConfig`, if quorums of the initial config are not known to intersect.
     pub fn new(alloc: Global, configs: C) -> Result<Self, Violation>
         ensures ok { IfOk result (λ c. configs_of c ≡ configs) }
-        ensures begins { Begins (tests_of T.rank T.eq N.eq D.eq (C.holds_config configs)
-            (C.has_quorum configs) (C.intersects configs)) result }
+        ensures begins { Begins (tests_of T.Term N.PartialEq D.PartialEq C.Configs configs) result }
     {
         if !configs.do_intersect(None, None) {
             return Err(Violation::Rule(Rule::InitialConfig));
@@ -68,9 +67,7 @@ impl<T: Term, N: Copy + Eq, D: Copy + Eq, C: Configs<N, D> + Drop> Checker<T, N,
     /// not been recorded.
     pub fn record(&mut self, event: &Event<T, N, D>) -> Result<(), Violation>
         ensures configs { configs_of self.new ≡ configs_of self.old }
-        ensures answer { Records (tests_of T.rank T.eq N.eq D.eq (C.holds_config
-            (configs_of self.old))
-            (C.has_quorum (configs_of self.old)) (C.intersects (configs_of self.old)))
+        ensures answer { Records (tests_of T.Term N.PartialEq D.PartialEq C.Configs (configs_of self.old))
             (event_of event.now) self.old self.new result }
     {
         match event {
@@ -117,8 +114,7 @@ impl<T: Term, N: Copy + Eq, D: Copy + Eq, C: Configs<N, D> + Drop> Checker<T, N,
     /// A server starts a campaign.
     fn campaigned(&mut self, server: N, term: T) -> Result<(), Violation>
         ensures configs { self.new.configs ≡ self.old.configs }
-        ensures answer { Answers (tests_of T.rank T.eq N.eq D.eq (C.holds_config self.old.configs)
-            (C.has_quorum self.old.configs) (C.intersects self.old.configs))
+        ensures answer { Answers (tests_of T.Term N.PartialEq D.PartialEq C.Configs self.old.configs)
             (Campaigned server term) self.old.servers.items self.old.leaders.items
             self.new.servers.items self.new.leaders.items result }
     {
@@ -143,8 +139,7 @@ impl<T: Term, N: Copy + Eq, D: Copy + Eq, C: Configs<N, D> + Drop> Checker<T, N,
     /// A server grants its vote.
     fn granted(&mut self, server: N, term: T, candidate: N) -> Result<(), Violation>
         ensures configs { self.new.configs ≡ self.old.configs }
-        ensures answer { Answers (tests_of T.rank T.eq N.eq D.eq (C.holds_config self.old.configs)
-            (C.has_quorum self.old.configs) (C.intersects self.old.configs))
+        ensures answer { Answers (tests_of T.Term N.PartialEq D.PartialEq C.Configs self.old.configs)
             (Granted server term candidate) self.old.servers.items self.old.leaders.items
             self.new.servers.items self.new.leaders.items result }
     {
@@ -175,8 +170,7 @@ impl<T: Term, N: Copy + Eq, D: Copy + Eq, C: Configs<N, D> + Drop> Checker<T, N,
         entries: &[Entry<T, D>],
     ) -> Result<(), Violation>
         ensures configs { self.new.configs ≡ self.old.configs }
-        ensures answer { Answers (tests_of T.rank T.eq N.eq D.eq (C.holds_config self.old.configs)
-            (C.has_quorum self.old.configs) (C.intersects self.old.configs))
+        ensures answer { Answers (tests_of T.Term N.PartialEq D.PartialEq C.Configs self.old.configs)
             (Appended server term leader keep entries.now) self.old.servers.items
             self.old.leaders.items
             self.new.servers.items self.new.leaders.items result }
@@ -198,8 +192,7 @@ impl<T: Term, N: Copy + Eq, D: Copy + Eq, C: Configs<N, D> + Drop> Checker<T, N,
     /// A server acknowledges entries.
     fn acked(&mut self, server: N, term: T, leader: N, len: usize) -> Result<(), Violation>
         ensures configs { self.new.configs ≡ self.old.configs }
-        ensures answer { Answers (tests_of T.rank T.eq N.eq D.eq (C.holds_config self.old.configs)
-            (C.has_quorum self.old.configs) (C.intersects self.old.configs))
+        ensures answer { Answers (tests_of T.Term N.PartialEq D.PartialEq C.Configs self.old.configs)
             (Acked server term leader len) self.old.servers.items self.old.leaders.items
             self.new.servers.items self.new.leaders.items result }
     {
@@ -221,8 +214,7 @@ impl<T: Term, N: Copy + Eq, D: Copy + Eq, C: Configs<N, D> + Drop> Checker<T, N,
     /// A server restarts.
     fn restarted(&mut self, server: N, len: usize) -> Result<(), Violation>
         ensures configs { self.new.configs ≡ self.old.configs }
-        ensures answer { Answers (tests_of T.rank T.eq N.eq D.eq (C.holds_config self.old.configs)
-            (C.has_quorum self.old.configs) (C.intersects self.old.configs))
+        ensures answer { Answers (tests_of T.Term N.PartialEq D.PartialEq C.Configs self.old.configs)
             (Restarted server len) self.old.servers.items self.old.leaders.items
             self.new.servers.items self.new.leaders.items result }
     {
@@ -238,8 +230,7 @@ impl<T: Term, N: Copy + Eq, D: Copy + Eq, C: Configs<N, D> + Drop> Checker<T, N,
     /// A leader writes an entry.
     fn wrote(&mut self, leader: N, term: T, entry: Entry<T, D>) -> Result<(), Violation>
         ensures configs { self.new.configs ≡ self.old.configs }
-        ensures answer { Answers (tests_of T.rank T.eq N.eq D.eq (C.holds_config self.old.configs)
-            (C.has_quorum self.old.configs) (C.intersects self.old.configs))
+        ensures answer { Answers (tests_of T.Term N.PartialEq D.PartialEq C.Configs self.old.configs)
             (Wrote leader term entry) self.old.servers.items self.old.leaders.items
             self.new.servers.items self.new.leaders.items result }
     {
@@ -264,8 +255,7 @@ impl<T: Term, N: Copy + Eq, D: Copy + Eq, C: Configs<N, D> + Drop> Checker<T, N,
         counted_at: usize,
     ) -> Result<(), Violation>
         ensures configs { self.new.configs ≡ self.old.configs }
-        ensures answer { Answers (tests_of T.rank T.eq N.eq D.eq (C.holds_config self.old.configs)
-            (C.has_quorum self.old.configs) (C.intersects self.old.configs))
+        ensures answer { Answers (tests_of T.Term N.PartialEq D.PartialEq C.Configs self.old.configs)
             (Committed leader term len counted_at) self.old.servers.items self.old.leaders.items
             self.new.servers.items self.new.leaders.items result }
     {
@@ -288,8 +278,7 @@ impl<T: Term, N: Copy + Eq, D: Copy + Eq, C: Configs<N, D> + Drop> Checker<T, N,
 
     /// A server applies entries.
     fn applied(&self, server: N, term: T, leader: N, len: usize) -> Result<(), Violation>
-        ensures { Answers (tests_of T.rank T.eq N.eq D.eq (C.holds_config self.now.configs)
-            (C.has_quorum self.now.configs) (C.intersects self.now.configs))
+        ensures { Answers (tests_of T.Term N.PartialEq D.PartialEq C.Configs self.now.configs)
             (Applied server term leader len) self.now.servers.items self.now.leaders.items
             self.now.servers.items self.now.leaders.items result }
     {

@@ -5,8 +5,8 @@ ghost use Rattle.std.specs.Set.{is_member};
 ghost use Rattle.raft_members.specs.quorum.Coherence.{share_child};
 ghost use Rattle.raft_members.specs.quorum.Majority.{is_majority};
 ghost use Rattle.raft_safety.specs.Checker.{tests_of};
-ghost use Rattle.raft_safety.specs.Memberships.{configs_of};
 ghost use Rattle.raft_safety.specs.Trace.{AreExact};
+ghost use Rattle.raft_safety.specs.Memberships.{configs_of};
 
 use crate::checker::Configs;
 use crate::term::Term;
@@ -88,8 +88,6 @@ impl<N: Copy + Ord, D: Copy + Eq> Memberships<N, D> {
 /// quorums intersect where `do_intersect` says so.
 pub fn memberships_are_exact<T: Term, N: Copy + Ord, D: Copy + Eq>(memberships: &Memberships<N, D>)
     ensures { ((x y : T) → T.eq x y ≡ true → x ≡ y) → ((x y : N) → N.eq x y ≡ true → x ≡ y)
-        → ((x y : D) → D.eq x y ≡ true → x ≡ y) → AreExact (tests_of T.rank T.eq N.eq D.eq
-        (⟦<Memberships<N, D> as Configs<N, D>>⟧.holds_config memberships.now)
-        (⟦<Memberships<N, D> as Configs<N, D>>⟧.has_quorum memberships.now)
-        (⟦<Memberships<N, D> as Configs<N, D>>⟧.intersects memberships.now)) }
+        → ((x y : D) → D.eq x y ≡ true → x ≡ y) → AreExact (tests_of T.Term
+        N.PartialEq D.PartialEq ⟦<Memberships<N, D> as Configs<N, D>>⟧ memberships.now) }
 {}

@@ -42,14 +42,10 @@ pub fn check_each<T: Term, N: Copy + Eq, D: Copy + Eq, C: Configs<N, D> + Drop>(
     configs: C,
     lists: &[Vec<Event<T, N, D>>],
 ) -> Result<(), Unplaced>
-    ensures safe { OnOk result (AreExact (tests_of T.rank T.eq N.eq D.eq (C.holds_config configs)
-        (C.has_quorum configs) (C.intersects configs)) →
-        HaveSafeOrder (tests_of T.rank T.eq N.eq D.eq (C.holds_config configs)
-        (C.has_quorum configs) (C.intersects configs)) lists.now) }
-    ensures refused { IfErr result (λ u. AreExact (tests_of T.rank T.eq N.eq D.eq
-        (C.holds_config configs) (C.has_quorum configs) (C.intersects configs)) →
-        IsRefusedMerge (tests_of T.rank T.eq N.eq D.eq (C.holds_config configs)
-        (C.has_quorum configs) (C.intersects configs)) lists.now u.placed.items u.list u.violation) }
+    ensures safe { OnOk result (AreExact (tests_of T.Term N.PartialEq D.PartialEq C.Configs configs) →
+        HaveSafeOrder (tests_of T.Term N.PartialEq D.PartialEq C.Configs configs) lists.now) }
+    ensures refused { IfErr result (λ u. AreExact (tests_of T.Term N.PartialEq D.PartialEq C.Configs configs) →
+        IsRefusedMerge (tests_of T.Term N.PartialEq D.PartialEq C.Configs configs) lists.now u.placed.items u.list u.violation) }
 {
     let Ok(mut placed) = vec![in alloc; 0; lists.len()] else {
         return Err(Unplaced {
@@ -101,9 +97,7 @@ fn record_next<T: Term, N: Copy + Eq, D: Copy + Eq, C: Configs<N, D> + Drop>(
     ensures ended { IfOk result (λ more. IsFalse more →
         (placed.new ≡ placed.old) × AreAllPlaced lists.now placed.old) }
     ensures same { OnErr result (placed.new ≡ placed.old) }
-    ensures records { RecordsNext (tests_of T.rank T.eq N.eq D.eq
-        (C.holds_config (configs_of checker.old)) (C.has_quorum (configs_of checker.old))
-        (C.intersects (configs_of checker.old))) lists.now
+    ensures records { RecordsNext (tests_of T.Term N.PartialEq D.PartialEq C.Configs (configs_of checker.old)) lists.now
         placed.old checker.old placed.new checker.new result }
 {
     let mut refused = None;

@@ -75,11 +75,9 @@ pub fn is_checked(
     memberships: Memberships<u64, u64>,
     events: &[Event<u64, u64, u64>],
 ) -> bool
-    ensures { IsTrue result → IsSafeTrace (tests_of ⟦<u64 as Term>⟧.rank nat_eq nat_eq nat_eq
-        (⟦<Memberships<u64, u64> as Configs<u64, u64>>⟧.holds_config memberships)
-        (⟦<Memberships<u64, u64> as Configs<u64, u64>>⟧.has_quorum memberships)
-        (⟦<Memberships<u64, u64> as Configs<u64, u64>>⟧.intersects memberships))
-        (trace_of events.now) }
+    ensures { IsTrue result → IsSafeTrace (tests_of ⟦<u64 as Term>⟧ ⟦<u64 as PartialEq>⟧
+        ⟦<u64 as PartialEq>⟧
+        ⟦<Memberships<u64, u64> as Configs<u64, u64>>⟧ memberships) (trace_of events.now) }
 {
     memberships_are_exact::<u64, u64, u64>(&memberships);
     match check(alloc, memberships, events) {

@@ -34,32 +34,8 @@ use Rattle.std.proofs.lemmas.List.Folds.{find-set, find_past, find_at}
 use Rattle.std.proofs.lemmas.List.Quantifiers.{position-Some}
 use Rattle.raft_safety.specs.Log.{Entry}
 use Rattle.raft_safety.specs.Events.{Event, GrantVote, Ack}
-use Rattle.raft_safety.specs.Trace.{
-  AreExact,
-  Tests,
-  TraceEvent,
-  Campaigned,
-  Granted,
-  Appended,
-  Acked,
-  Restarted,
-  Wrote,
-  Committed,
-  Applied,
-  events_in,
-  candidate_log_in,
-  leader_log_in,
-  has_voted,
-  has_acked,
-  has_campaigned,
-  is_elected,
-  is_config_committed,
-  is_quorum_of_log,
-  same_leader,
-  and_append,
-  and_restart,
-}
-use Rattle.raft_safety.specs.Checker.{SeesLeader, SeesNoLeader, SeesLeaders, find_leader}
+use Rattle.raft_safety.specs.Trace.{AreExact, Tests, TraceEvent, Campaigned, Granted, Appended, Acked, Restarted, Wrote, Committed, Applied, events_in, candidate_log_in, leader_log_in, has_voted, has_acked, has_campaigned, is_elected, is_config_committed, is_quorum_of_log, same_leader, and_append, and_restart}
+use Rattle.raft_safety.specs.Inner.Seen.{SeesLeader, SeesNoLeader, SeesLeaders, find_leader}
 use Rattle.raft_safety.specs.declared.checker.leader.Leader.{Leader}
 use Rattle.raft_safety.proofs.lemmas.TestLemmas.{leader_right}
 use Rattle.raft_safety.proofs.lemmas.CheckedServerLemmas.{place_of}

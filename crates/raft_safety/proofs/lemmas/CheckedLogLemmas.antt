@@ -29,7 +29,7 @@ use Rattle.std.proofs.lemmas.Bool.Decides.{nat_tests}
 use Rattle.std.proofs.lemmas.List.{length-take-le, take-append-drop}
 use Rattle.raft_safety.specs.Log.{Entry, IsPrefix}
 use Rattle.raft_safety.specs.Trace.{AreExact, Tests, common_prefix, is_prefix, same_entry}
-use Rattle.raft_safety.specs.CheckerState.{common_len}
+use Rattle.raft_safety.specs.Inner.CheckerState.{common_len}
 use Rattle.raft_safety.proofs.lemmas.TestLemmas.{prefix_right, entry_right, entry_itself}
 
 le_test_suc : (n m : ℕ) → nat_le (suc n) (suc m) ≡ nat_le n m

@@ -39,20 +39,9 @@ use Rattle.std.proofs.lemmas.List.Folds.{find-set, find_past}
 use Rattle.std.proofs.lemmas.List.Quantifiers.{position-Some}
 use Rattle.raft_safety.specs.Log.{Entry}
 use Rattle.raft_safety.specs.Events.{Event, GrantVote, Append, Ack, Restart, term_after, log_after}
-use Rattle.raft_safety.specs.Trace.{
-  AreExact,
-  Tests,
-  TraceEvent,
-  events_in,
-  is_prefix,
-  same_entry,
-  has_kept,
-  durable,
-  and_append,
-  and_restart,
-}
-use Rattle.raft_safety.specs.CheckerState.{common_len, kept_from, kept_after, at_most}
-use Rattle.raft_safety.specs.Checker.{SeesServer, SeesServers, kept_at, find_server}
+use Rattle.raft_safety.specs.Trace.{AreExact, Tests, TraceEvent, events_in, is_prefix, same_entry, has_kept, durable, and_append, and_restart}
+use Rattle.raft_safety.specs.Inner.CheckerState.{common_len, kept_from, kept_after, at_most}
+use Rattle.raft_safety.specs.Inner.Seen.{SeesServer, SeesServers, kept_at, find_server}
 use Rattle.raft_safety.specs.declared.checker.server.Kept.{Kept}
 use Rattle.raft_safety.specs.declared.checker.server.Server.{Server}
 use Rattle.raft_safety.proofs.lemmas.PrefixLemmas.{prefix_length}

@@ -54,8 +54,8 @@ use Rattle.std.proofs.lemmas.List.{
 use Rattle.raft_safety.specs.Log.{Entry, last_term_or, last_term}
 use Rattle.raft_safety.specs.Trace.{TraceEvent}
 use Rattle.raft_safety.specs.Checker.{event_of, trace_after, trace_of}
+use Rattle.raft_safety.specs.Inner.CheckerState.{common_len, has_acked_to}
 use Rattle.raft_safety.specs.declared.event.Event.{Event as RecordedEvent}
-use Rattle.raft_safety.specs.CheckerState.{common_len, has_acked_to}
 use Rattle.raft_safety.specs.declared.checker.leader.Acked.{Acked}
 use Rattle.raft_safety.proofs.lemmas.CheckedLeaderLemmas.{any_push, any_set_or}
 

@@ -1,40 +1,5 @@
 -- The checker refuses an event exactly if it is not allowed, and keeps what the events say.
-use Rattle.std.specs.Prelude.{
-  ◌≡◌,
-  ◌⊎◌,
-  ◌+◌,
-  ◌<◌,
-  ◌≤◌,
-  ℕ,
-  zero,
-  suc,
-  Bool,
-  true,
-  false,
-  not,
-  ◌&&◌,
-  ◌||◌,
-  nat_lt,
-  nat_le,
-  nat_eq,
-  min,
-  max,
-  if◌then◌else◌,
-  Option,
-  Some,
-  None,
-  is_none,
-  List,
-  [],
-  ◌∷◌,
-  ◌++◌,
-  length,
-  take,
-  drop,
-  map,
-  get_or,
-  set,
-}
+use Rattle.std.specs.Prelude.{◌≡◌, ◌⊎◌, ◌+◌, ◌<◌, ◌≤◌, ℕ, zero, suc, Bool, true, false, not, ◌&&◌, ◌||◌, nat_lt, nat_le, nat_eq, min, max, if◌then◌else◌, Option, Some, None, is_none, List, [], ◌∷◌, ◌++◌, length, take, drop, map, get_or, set}
 use Rattle.std.specs.Cmp.{first_so, second_so}
 use Rattle.std.specs.List.{find, list_any, position, IsDistinct}
 use Rattle.std.specs.Option.{MatchOption, unwrap_or, option_or}
@@ -42,30 +7,7 @@ use Rattle.std.specs.Set.{is_member}
 use Rattle.std.proofs.Common.{refl, sym, ap, ◌∙◌, subst, inl, inr, arith, ltb-true}
 use Rattle.std.proofs.lemmas.List.Folds.{find-append}
 use Rattle.std.proofs.lemmas.List.Quantifiers.{position-Some}
-use Rattle.raft_safety.specs.declared.rule.Rule.TheVariants.{
-  NoCampaign,
-  OwnCandidate,
-  CandidateBehind,
-  OtherTerm,
-  ApartConfigs,
-  ApartQuorums,
-  EarlyConfig,
-  EarlierTerm,
-  CountedEarly,
-  NoQuorum,
-  NotAcked,
-  NotCommitted,
-  CampaignedTwice,
-  NotElected,
-  PassedTerm,
-  MissingEntries,
-  DropsMatching,
-  ForeignEntries,
-  TermNotReached,
-  NotWritten,
-  NotKept,
-  LostAcked,
-}
+use Rattle.raft_safety.specs.declared.rule.Rule.TheVariants.{OwnCandidate, CandidateBehind, OtherTerm, ApartConfigs, ApartQuorums, EarlyConfig, EarlierTerm, CountedEarly, NoQuorum, NotAcked, NotCommitted, CampaignedTwice, NotElected, PassedTerm, MissingEntries, DropsMatching, ForeignEntries, TermNotReached, NotWritten, NotKept, LostAcked}
 use Rattle.raft_safety.proofs.lemmas.PrefixLemmas.{prefix_length}
 use Rattle.raft_safety.proofs.lemmas.TestLemmas.{leader_right, leader_from, prefix_right, entry_right, entry_itself}
 use Rattle.std.proofs.lemmas.Bool.{cases_Bool, and_from, and_right, cases_lt, leb-true, leb-false, lt-ltb, le-ltb, le-leb}
@@ -73,178 +15,17 @@ use Rattle.std.proofs.lemmas.List.{take_all, take-append-le, length-append, leng
 use Rattle.raft_safety.specs.Log.{Entry}
 use Rattle.raft_safety.specs.Configs.{effective_config}
 use Rattle.raft_safety.specs.Events.{Event, GrantVote, Ack, log_after, term_after}
-use Rattle.raft_safety.specs.Trace.{
-  AreExact,
-  Tests,
-  TraceEvent,
-  Campaigned,
-  Granted,
-  Appended,
-  Acked,
-  Restarted,
-  Wrote,
-  Committed,
-  Applied,
-  durable,
-  term_in,
-  log_in,
-  is_up_to_date,
-  events_in,
-  has_campaigned,
-  is_elected,
-  is_allowed,
-  are_allowed,
-  may_propose,
-  same_entry,
-  same_leader,
-  hold_no_config,
-  and_append,
-  and_restart,
-  has_kept,
-  has_acked,
-  has_voted,
-  candidate_log_in,
-  leader_log_in,
-  is_config_committed,
-  is_known_committed,
-  is_quorum_of_log,
-  is_prefix,
-  common_prefix,
-}
-use Rattle.raft_safety.specs.CheckerState.{
-  unless,
-  up_to_date_by,
-  write_rule,
-  config_rule,
-  config_in,
-  no_config_in,
-  append_rule,
-  ack_rule,
-  restart_rule,
-  grant_rule,
-  commit_rule,
-  knows,
-  has_committed,
-  has_kept_by,
-  has_acked_to,
-  config_committed,
-  common_len,
-  kept_from,
-  kept_after,
-  at_most,
-  IsAdded,
-  HasPlace,
-}
-use Rattle.raft_safety.specs.Checker.{
-  broken_rule,
-  proposal_rule,
-  HasSeen,
-  SeesServer,
-  kept_at,
-  SeesServers,
-  SeesLeader,
-  SeesNoLeader,
-  SeesLeaders,
-  find_server,
-  find_leader,
-}
+use Rattle.raft_safety.specs.Trace.{AreExact, Tests, TraceEvent, Campaigned, Granted, Appended, Acked, Restarted, Wrote, Committed, Applied, events_in, has_campaigned, is_elected, is_allowed, are_allowed, same_entry, same_leader, hold_no_config, and_append, and_restart, has_kept, has_acked, has_voted, candidate_log_in, leader_log_in, is_config_committed, is_known_committed, is_quorum_of_log, is_prefix, common_prefix, unless, broken_rule, proposal_rule}
+use Rattle.raft_safety.specs.Inner.CheckerState.{up_to_date_by, write_rule, config_rule, config_in, no_config_in, append_rule, ack_rule, restart_rule, grant_rule, commit_rule, knows, has_committed, has_kept_by, has_acked_to, config_committed, common_len, kept_from, kept_after, at_most, IsAdded, HasPlace}
+use Rattle.raft_safety.specs.Checker.{HasSeen}
+use Rattle.raft_safety.specs.Inner.Seen.{SeesServer, kept_at, SeesServers, SeesLeader, SeesNoLeader, SeesLeaders, find_server, find_leader}
+use Rattle.raft_safety.proofs.lemmas.RuleLemmas.{first_none, rest_none, first_two}
 use Rattle.raft_safety.specs.declared.rule.Rule.{Rule}
 use Rattle.raft_safety.specs.declared.checker.server.Server.{Server}
 use Rattle.raft_safety.specs.declared.checker.leader.Leader.{Leader}
-use Rattle.raft_safety.proofs.lemmas.CheckedLogLemmas.{
-  same_sym,
-  common_from,
-  keeps_common,
-  appended_is_old,
-  appended_is_other,
-  is_prefix_by_len,
-}
-use Rattle.raft_safety.proofs.lemmas.CheckedServerLemmas.{
-  has_kept_by_len,
-  kept_all,
-  sees_vote,
-  sees_append,
-  sees_ack,
-  sees_restart,
-  sees_new,
-  see_set,
-}
-use Rattle.raft_safety.proofs.lemmas.CheckedLeaderLemmas.{
-  found_some,
-  write_of_other,
-  commit_of_other,
-  apply_same,
-  any_set_or,
-  vote_no_ack,
-  campaign_of_other,
-  grant_to_other,
-  found_at,
-  none_found,
-  stays,
-  ack_to_other,
-  ack_no_vote,
-  append_same,
-  restart_same,
-  see_leader_set,
-  see_leader_added,
-}
-
--- ---- an event breaks no rule exactly if it is allowed
-
-rule_first : (b : Bool) (r : Rule) (o : Option Rule) → is_none (unless b r o) ≡ (b && is_none o)
-rule_first true r o = refl
-rule_first false r o = refl
-
-and_yes : (b : Bool) → (b && true) ≡ b
-and_yes true = refl
-and_yes false = refl
-
-and_swap : (a b c : Bool) → (a && (b && c)) ≡ (b && (a && c))
-and_swap true b c = refl
-and_swap false true c = refl
-and_swap false false c = refl
-
-and_turn : (a b : Bool) → (a && b) ≡ (b && a)
-and_turn true true = refl
-and_turn true false = refl
-and_turn false true = refl
-and_turn false false = refl
-
-rules_2 : (a b : Bool) (p q : Rule) → is_none (unless a p (unless b q None)) ≡ (a && b)
-rules_2 true true p q = refl
-rules_2 true false p q = refl
-rules_2 false b p q = refl
-
-rules_3 : (a b c : Bool) (p q r : Rule)
-    → is_none (unless a p (unless b q (unless c r None))) ≡ (a && (b && c))
-rules_3 true b c p q r = rules_2 b c q r
-rules_3 false b c p q r = refl
-
-rules_4 : (a b c d : Bool) (p q r s : Rule)
-    → is_none (unless a p (unless b q (unless c r (unless d s None)))) ≡ (a && (b && (c && d)))
-rules_4 true b c d p q r s = rules_3 b c d q r s
-rules_4 false b c d p q r s = refl
-
-rules_5 : (a b c d e : Bool) (p q r s t : Rule)
-    → is_none (unless a p (unless b q (unless c r (unless d s (unless e t None)))))
-    ≡ (a && (b && (c && (d && e))))
-rules_5 true b c d e p q r s t = rules_4 b c d e q r s t
-rules_5 false b c d e p q r s t = refl
-
-pub first_none : (b : Bool) (r : Rule) (o : Option Rule) → unless b r o ≡ None → b ≡ true
-first_none true r o e = refl
-first_none false r o e = absurd (cc)
-
-pub rest_none : (b : Bool) (r : Rule) (o : Option Rule) → unless b r o ≡ None → o ≡ None
-rest_none true r o e = e
-rest_none false r o e = absurd (cc)
-
-first_two : (a b c : Bool) (p q r : Rule) (o : Option Rule)
-    → unless a p (unless b q (unless c r o)) ≡ None → (b ≡ true) × (c ≡ true)
-first_two true true true p q r o e = (refl, refl)
-first_two true true false p q r o e = absurd (cc)
-first_two true false c p q r o e = absurd (cc)
-first_two false b c p q r o e = absurd (cc)
+use Rattle.raft_safety.proofs.lemmas.CheckedLogLemmas.{same_sym, common_from, keeps_common, appended_is_old, appended_is_other, is_prefix_by_len}
+use Rattle.raft_safety.proofs.lemmas.CheckedServerLemmas.{has_kept_by_len, kept_all, sees_vote, sees_append, sees_ack, sees_restart, sees_new, see_set}
+use Rattle.raft_safety.proofs.lemmas.CheckedLeaderLemmas.{found_some, write_of_other, commit_of_other, apply_same, any_set_or, vote_no_ack, campaign_of_other, grant_to_other, found_at, none_found, stays, ack_to_other, ack_no_vote, append_same, restart_same, see_leader_set, see_leader_added}
 
 -- an append that breaks no rule is in a term that the server has not passed, and keeps entries that
 -- the server has
@@ -263,67 +44,9 @@ append_first same s l r n sent free =
     (leb-true s.term r rules.0, leb-true n (length s.log.items) rules.1)
 
 module _ {T ID D M : Type 0} (k : Tests T ID D M) where
-  proposal_tests : (es : List (TraceEvent T ID D)) (t : T) (c : ID) (o : Option M)
-      → is_none (proposal_rule k es t c o) ≡ may_propose k es t c o
-  proposal_tests es t c None = refl
-  proposal_tests es t c (Some m) =
-      rules_3 (k.intersect (effective_config k.config_of k.initial (leader_log_in k es t c)) m)
-      (k.intersect m m) (is_config_committed k t c (leader_log_in k es t c) es) ApartConfigs ApartQuorums
-      EarlyConfig
-
-  pub allowed_by_rules : (e : TraceEvent T ID D) (es : List (TraceEvent T ID D))
-      → is_none (broken_rule k e es) ≡ is_allowed k e es
-  allowed_by_rules (Campaigned c t) es =
-      let new : Bool = not (has_campaigned k t c es) in
-      let term : Bool = nat_lt (term_in k es c) (k.rank t) in
-      rules_2 new term CampaignedTwice PassedTerm ∙ and_turn new term
-  allowed_by_rules (Granted s t c) es =
-      let campaigned : Bool = has_campaigned k t c es in
-      let term : Bool = nat_lt (term_in k es s) (k.rank t) in
-      let other : Bool = not (k.same_id c s) in
-      let log : Bool = is_up_to_date k (candidate_log_in k es t c) (log_in k es s) in
-      rules_4 campaigned term other log NoCampaign PassedTerm OwnCandidate CandidateBehind
-      ∙ and_swap campaigned term (other && log)
-  allowed_by_rules (Appended s t c n sent) es =
-      let elected : Bool = is_elected k es t c in
-      let term : Bool = nat_le (term_in k es s) (k.rank t) in
-      let within : Bool = nat_le n (length (log_in k es s)) in
-      let keeps : Bool =
-      is_prefix k (common_prefix k (log_in k es s) (leader_log_in k es t c)) (take n (log_in k es s) ++ sent) in
-      let of_these : Bool =
-      is_prefix k (take n (log_in k es s) ++ sent) (log_in k es s)
-      || is_prefix k (take n (log_in k es s) ++ sent) (leader_log_in k es t c) in
-      rules_5 elected term within keeps of_these NotElected PassedTerm MissingEntries DropsMatching ForeignEntries
-      ∙ and_swap elected term (within && (keeps && of_these))
-  allowed_by_rules (Acked s t c n) es =
-      let elected : Bool = is_elected k es t c in
-      let term : Bool = nat_le (k.rank t) (term_in k es s) in
-      let written : Bool = nat_le n (length (leader_log_in k es t c)) in
-      let kept : Bool = has_kept k (k.rank t) (take n (leader_log_in k es t c)) (events_in k es s) in
-      rules_4 elected term written kept NotElected TermNotReached NotWritten NotKept
-      ∙ and_swap elected term (written && kept)
-  allowed_by_rules (Restarted s n) es =
-      rules_2 (nat_le (durable k (events_in k es s)) n) (nat_le n (length (log_in k es s))) LostAcked
-      MissingEntries
-  allowed_by_rules (Wrote c t e) es =
-      rule_first (is_elected k es t c) NotElected
-      (unless (k.same_term e.term t) OtherTerm (proposal_rule k es t c (k.config_of e.content)))
-      ∙ ap (λ x. is_elected k es t c && x)
-      (rule_first (k.same_term e.term t) OtherTerm (proposal_rule k es t c (k.config_of e.content))
-      ∙ ap (λ x. k.same_term e.term t && x) (proposal_tests es t c (k.config_of e.content)))
-  allowed_by_rules (Committed c t n m) es =
-      rules_5 (is_elected k es t c) (nat_lt (length (candidate_log_in k es t c)) n) (nat_le n m)
-      (nat_le m (length (leader_log_in k es t c)))
-      (is_quorum_of_log k (take m (leader_log_in k es t c)) (λ v. has_acked k t c n (events_in k es v)))
-      NotElected EarlierTerm CountedEarly NotWritten NoQuorum
-  allowed_by_rules (Applied s t c n) es =
-      rules_2 (has_acked k t c n (events_in k es s))
-      (is_known_committed k (k.rank t) (take n (leader_log_in k es t c)) es) NotAcked NotCommitted
-
   pub more_allowed : (e : TraceEvent T ID D) (es : List (TraceEvent T ID D))
       → broken_rule k e es ≡ None → are_allowed k es ≡ true → are_allowed k (e ∷ es) ≡ true
-  more_allowed e es h g =
-      and_from (is_allowed k e es) (are_allowed k es) (sym (allowed_by_rules e es) ∙ ap is_none h) g
+  more_allowed e es h g = and_from (is_allowed k e es) (are_allowed k es) (ap is_none h) g
 
 or_turn : (a b : Bool) → (a || b) ≡ (b || a)
 or_turn true true = refl

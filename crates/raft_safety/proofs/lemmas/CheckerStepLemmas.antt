@@ -38,44 +38,10 @@ use Rattle.std.proofs.lemmas.List.{get_or_default}
 use Rattle.std.proofs.lemmas.List.Quantifiers.{position-Some}
 use Rattle.raft_safety.specs.Log.{Entry}
 use Rattle.raft_safety.specs.Configs.{effective_config}
-use Rattle.raft_safety.specs.Trace.{
-  AreExact,
-  Tests,
-  TraceEvent,
-  Campaigned,
-  Granted,
-  Appended,
-  Acked,
-  Restarted,
-  Wrote,
-  Committed,
-  Applied,
-  events_in,
-  same_entry,
-  same_leader,
-  hold_no_config,
-  is_quorum_of_log,
-}
-use Rattle.raft_safety.specs.CheckerState.{
-  unless,
-  config_in,
-  write_rule,
-  commit_rule,
-  append_rule,
-  ack_rule,
-  restart_rule,
-  grant_rule,
-  knows,
-  has_committed,
-  has_acked_to,
-  config_committed,
-  common_len,
-  kept_from,
-  kept_after,
-  at_most,
-  HasPlace,
-}
-use Rattle.raft_safety.specs.Checker.{broken_rule, HasSeen, SeesServer, SeesLeader}
+use Rattle.raft_safety.specs.Trace.{AreExact, Tests, TraceEvent, Campaigned, Granted, Appended, Acked, Restarted, Wrote, Committed, Applied, events_in, same_entry, same_leader, hold_no_config, is_quorum_of_log, unless, broken_rule}
+use Rattle.raft_safety.specs.Inner.CheckerState.{config_in, write_rule, commit_rule, append_rule, ack_rule, restart_rule, grant_rule, knows, has_committed, has_acked_to, config_committed, common_len, kept_from, kept_after, at_most, HasPlace}
+use Rattle.raft_safety.specs.Checker.{HasSeen}
+use Rattle.raft_safety.specs.Inner.Seen.{SeesServer, SeesLeader}
 use Rattle.raft_safety.specs.declared.rule.Rule.TheVariants.{
   NoCampaign,
   NotElected,

@@ -33,7 +33,7 @@ use Rattle.std.proofs.lemmas.List.{drop_all, drop_more}
 use Rattle.std.proofs.lemmas.List.Folds.{list_any-append}
 use Rattle.raft_safety.specs.Log.{Entry}
 use Rattle.raft_safety.specs.Configs.{effective_config}
-use Rattle.raft_safety.specs.CheckerState.{config_in, has_acked_to}
+use Rattle.raft_safety.specs.Inner.CheckerState.{config_in, has_acked_to}
 use Rattle.raft_safety.specs.declared.checker.leader.Acked.{Acked}
 use Rattle.raft_safety.specs.Memberships.{held_by}
 

@@ -28,8 +28,8 @@ use Rattle.std.specs.Option.{option_or}
 use Rattle.std.proofs.Common.{refl, sym, ap, ◌∙◌, inl, inr, subst, arith}
 use Rattle.std.proofs.lemmas.Bool.{cases_eq}
 use Rattle.std.proofs.lemmas.Option.{slice_get-get_or, slice_get_read, slice_get_within}
-use Rattle.raft_safety.specs.Trace.{TraceEvent, Tests}
-use Rattle.raft_safety.specs.Checker.{broken_rule, event_of}
+use Rattle.raft_safety.specs.Trace.{TraceEvent, Tests, broken_rule}
+use Rattle.raft_safety.specs.Checker.{event_of}
 use Rattle.raft_safety.specs.Merge.{
   AreAllPlaced,
   AreEnded,

@@ -1,29 +1,5 @@
 -- A trace that passes the test is an execution.
-use Rattle.std.specs.Prelude.{
-  ◌≡◌,
-  ◌⊎◌,
-  ◌≤◌,
-  ℕ,
-  Bool,
-  true,
-  false,
-  not,
-  ◌&&◌,
-  ◌||◌,
-  nat_lt,
-  nat_le,
-  if◌then◌else◌,
-  Option,
-  Some,
-  List,
-  [],
-  ◌∷◌,
-  ◌++◌,
-  length,
-  take,
-  drop,
-  get_or,
-}
+use Rattle.std.specs.Prelude.{◌≡◌, ◌⊎◌, ◌≤◌, ℕ, Bool, true, false, not, ◌&&◌, ◌||◌, nat_lt, nat_le, if◌then◌else◌, Option, Some, List, [], ◌∷◌, ◌++◌, length, take, drop, get_or}
 use Rattle.std.specs.Cmp.{first_so, second_so}
 use Rattle.std.proofs.Common.{refl, sym, ap, ◌∙◌, inl, inr, arith, ltb-true}
 use Rattle.std.proofs.lemmas.Bool.{leb-true, or_left, or_right}
@@ -37,72 +13,12 @@ use Rattle.raft_safety.specs.Apply.{MayApply}
 use Rattle.raft_safety.specs.Configs.{HoldNoConfig, MayProposeConfig, QuorumsIntersect, effective_config, is_quorum}
 use Rattle.raft_safety.specs.Ranks.{IsAmong}
 use Rattle.raft_safety.specs.Execution.{IsExecution, LeaderAppends, MayDo, Next, ServerStep, StartsCampaign}
-use Rattle.raft_safety.specs.Trace.{
-  Acked,
-  Appended,
-  Applied,
-  AreExact,
-  Campaigned,
-  Committed,
-  Granted,
-  IsSafeTrace,
-  Restarted,
-  TermsHaveRanks,
-  Tests,
-  TraceEvent,
-  WasApplied,
-  Wrote,
-  are_allowed,
-  campaign_terms,
-  candidate_log_in,
-  common_prefix,
-  durable,
-  earlier,
-  events_in,
-  has_acked,
-  has_campaigned,
-  has_kept,
-  has_voted,
-  history,
-  hold_no_config,
-  is_allowed,
-  is_committed,
-  is_config_committed,
-  is_elected,
-  is_known_committed,
-  is_prefix,
-  is_up_to_date,
-  leader_log_in,
-  log_in,
-  may_propose,
-  same_leader,
-  term_in,
-}
-use Rattle.raft_safety.proofs.lemmas.PrefixLemmas.{
-  append-nil,
-  prefix_itself,
-  prefix_trans,
-  prefix_take,
-  prefix_length,
-  prefix_same,
-  prefix_within,
-}
+use Rattle.raft_safety.specs.Trace.{Acked, Appended, Applied, AreExact, Campaigned, Committed, Granted, IsSafeTrace, Restarted, TermsHaveRanks, Tests, TraceEvent, WasApplied, Wrote, are_allowed, campaign_terms, candidate_log_in, common_prefix, durable, earlier, events_in, has_acked, has_campaigned, has_kept, has_voted, history, hold_no_config, is_allowed, is_config_committed, is_elected, is_known_committed, is_prefix, is_up_to_date, leader_log_in, log_in, same_leader, term_in}
+use Rattle.raft_safety.proofs.lemmas.PrefixLemmas.{append-nil, prefix_itself, prefix_trans, prefix_take, prefix_length, prefix_same, prefix_within}
+use Rattle.raft_safety.proofs.lemmas.RuleLemmas.{allowed_by_rules, is_committed, may_propose, passes}
 use Rattle.raft_safety.proofs.lemmas.ServerLemmas.{durable_now, had_now}
 use Rattle.raft_safety.proofs.lemmas.ExecutionLemmas.{all_times_agree, execution_is_safe, step_keeps_facts}
-use Rattle.raft_safety.proofs.lemmas.TestLemmas.{
-  or_cases,
-  not_so,
-  leader_right,
-  leader_from,
-  prefix_right,
-  common_right,
-  up_to_date_right,
-  no_config_right,
-  voted_right,
-  acked_right,
-  kept_right,
-  durable_within,
-}
+use Rattle.raft_safety.proofs.lemmas.TestLemmas.{or_cases, not_so, leader_right, leader_from, prefix_right, common_right, up_to_date_right, no_config_right, voted_right, acked_right, kept_right, durable_within}
 
 module _ {T ID D M : Type 0} (k : Tests T ID D M) (exact : AreExact k) where
   abbrev Q : List (Entry T D) → (ID → Bool) → Bool
@@ -148,8 +64,8 @@ module _ {T ID D M : Type 0} (k : Tests T ID D M) (exact : AreExact k) where
   skip_restart false log es t c x = x
 
   allowed_last : (e : TraceEvent T ID D) (es : Events) → are_allowed k (e ∷ es) ≡ true
-      → is_allowed k e es ≡ true
-  allowed_last e es ok = first_so (is_allowed k e es) (are_allowed k es) ok
+      → passes k e es ≡ true
+  allowed_last e es ok = sym (allowed_by_rules k e es) ∙ first_so (is_allowed k e es) (are_allowed k es) ok
 
   allowed_before : (e : TraceEvent T ID D) (es : Events) → are_allowed k (e ∷ es) ≡ true
       → are_allowed k es ≡ true
@@ -316,7 +232,7 @@ module _ {T ID D M : Type 0} (k : Tests T ID D M) (exact : AreExact k) where
       })
 
   -- what each event needs
-  may_campaign : (es : Events) (c : ID) (t : T) → is_allowed k (Campaigned c t) es ≡ true
+  may_campaign : (es : Events) (c : ID) (t : T) → passes k (Campaigned c t) es ≡ true
       → MayGrantVote k.rank Q (history k (Campaigned c t ∷ es)) c (events_in k es c) t c
   may_campaign es c t ok =
       let own : (if same_leader k t c t c then log_in k es c else candidate_log_in k es t c)
@@ -330,13 +246,13 @@ module _ {T ID D M : Type 0} (k : Tests T ID D M) (exact : AreExact k) where
       }
 
   no_votes : (es : Events) (c : ID) (t : T) → are_allowed k es ≡ true
-      → is_allowed k (Campaigned c t) es ≡ true → (s : ID) → HasVoted t c (events_in k es s) → ⊥
+      → passes k (Campaigned c t) es ≡ true → (s : ID) → HasVoted t c (events_in k es s) → ⊥
   no_votes es c t before ok s x =
       not_so (has_campaigned k t c es)
       (second_so (nat_lt (term_in k es c) (k.rank t)) (not (has_campaigned k t c es)) ok)
       (has_campaign es s t c before x)
 
-  may_grant : (es : Events) (s : ID) (t : T) (c : ID) → is_allowed k (Granted s t c) es ≡ true
+  may_grant : (es : Events) (s : ID) (t : T) (c : ID) → passes k (Granted s t c) es ≡ true
       → MayGrantVote k.rank Q (history k (Granted s t c ∷ es)) s (events_in k es s) t c
   may_grant es s t c ok =
       let a : Bool = nat_lt (term_in k es s) (k.rank t) in
@@ -361,7 +277,7 @@ module _ {T ID D M : Type 0} (k : Tests T ID D M) (exact : AreExact k) where
       go (inr x) = inr (prefix_right k exact a c x)
 
   may_append : (es : Events) (s : ID) (t : T) (c : ID) (n : ℕ) (sent : List (Entry T D))
-      → is_allowed k (Appended s t c n sent) es ≡ true
+      → passes k (Appended s t c n sent) es ≡ true
       → MayAppend k.rank Q (history k es) (events_in k es s) t c (take n (log_in k es s) ++ sent)
   may_append es s t c n sent ok =
       let old : List (Entry T D) = log_in k es s in
@@ -384,7 +300,7 @@ module _ {T ID D M : Type 0} (k : Tests T ID D M) (exact : AreExact k) where
         of_these = either_prefix log old lead (second_so f g ok3);
       }
 
-  may_ack : (es : Events) (s : ID) (t : T) (c : ID) (n : ℕ) → is_allowed k (Acked s t c n) es ≡ true
+  may_ack : (es : Events) (s : ID) (t : T) (c : ID) (n : ℕ) → passes k (Acked s t c n) es ≡ true
       → MayAck k.rank Q (history k es) (events_in k es s) t c n
   may_ack es s t c n ok =
       let a : Bool = nat_le (k.rank t) (term_in k es s) in
@@ -402,7 +318,7 @@ module _ {T ID D M : Type 0} (k : Tests T ID D M) (exact : AreExact k) where
             (second_so d f ok2);
       }
 
-  may_restart : (es : Events) (s : ID) (n : ℕ) → is_allowed k (Restarted s n) es ≡ true
+  may_restart : (es : Events) (s : ID) (n : ℕ) → passes k (Restarted s n) es ≡ true
       → MayRestart (events_in k es s) (take n (log_in k es s))
   may_restart es s n ok =
       let a : Bool = nat_le (durable k (events_in k es s)) n in
@@ -422,7 +338,7 @@ module _ {T ID D M : Type 0} (k : Tests T ID D M) (exact : AreExact k) where
             ));
       }
 
-  may_write : (es : Events) (c : ID) (t : T) (x : Entry T D) → is_allowed k (Wrote c t x) es ≡ true
+  may_write : (es : Events) (c : ID) (t : T) (x : Entry T D) → passes k (Wrote c t x) es ≡ true
       → (x.term ≡ t) × (may_propose k es t c (k.config_of x.content) ≡ true)
   may_write es c t x ok =
       let a : Bool = is_elected k es t c in
@@ -657,7 +573,7 @@ module _ {T ID D M : Type 0} (k : Tests T ID D M) (exact : AreExact k) where
       lift_known x es ok run r p (was_known es (allowed_before x es ok) run.1 r p e)
 
   may_apply : (es : Events) → are_allowed k es ≡ true → IsRun es → (s : ID) (t : T) (c : ID) (n : ℕ)
-      → is_allowed k (Applied s t c n) es ≡ true
+      → passes k (Applied s t c n) es ≡ true
       → MayApply k.rank Q (history k es) (events_in k es s) n
   may_apply es ok run s t c n e =
       let a : Bool = has_acked k t c n (events_in k es s) in

@@ -1,6 +1,6 @@
 //! Which rule an event breaks.
 ghost use Rattle.std.specs.Prelude.{◌≡◌};
-ghost use Rattle.raft_safety.specs.CheckerState.{ack_rule, append_rule, commit_rule, config_rule, grant_rule, has_committed, knows, restart_rule, same_entry_by, up_to_date_by, write_rule};
+ghost use Rattle.raft_safety.specs.Inner.CheckerState.{ack_rule, append_rule, commit_rule, config_rule, grant_rule, knows, restart_rule, same_entry_by, up_to_date_by, write_rule};
 
 use super::configs::Configs;
 use super::leader::Leader;

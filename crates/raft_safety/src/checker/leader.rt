@@ -1,10 +1,10 @@
 //! What the checker keeps of a candidate or leader.
-ghost use Rattle.std.specs.Prelude.{◌≡◌, ◌≤◌, ◌++◌, ◌∷◌, ◌&&◌, ◌||◌, ℕ, true, [], IfOk, OnOk, OnErr, Some, None, length, max, nat_le, take};
+ghost use Rattle.std.specs.Prelude.{◌≡◌, ◌++◌, ◌∷◌, ◌&&◌, ◌||◌, ℕ, true, [], IfOk, OnOk, OnErr, Some, None, length, max, nat_le, take};
 ghost use Rattle.std.specs.List.{IsDistinct, position};
 ghost use Rattle.std.specs.Option.{unwrap_or};
 ghost use Rattle.std.specs.Set.{is_member};
 ghost use Rattle.raft_safety.specs.Configs.{effective_config};
-ghost use Rattle.raft_safety.specs.CheckerState.{config_in, has_acked_to};
+ghost use Rattle.raft_safety.specs.Inner.CheckerState.{config_in, has_acked_to};
 
 use super::configs::Configs;
 use super::logs::{effective_config, first};

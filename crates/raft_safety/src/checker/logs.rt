@@ -2,7 +2,7 @@
 ghost use Rattle.std.specs.Prelude.{◌≡◌, ◌≤◌, Option, None, drop, length, nat_eq, take};
 ghost use Rattle.raft_safety.specs.Configs.{effective_config};
 ghost use Rattle.raft_safety.specs.Log.{last_term};
-ghost use Rattle.raft_safety.specs.CheckerState.{common_len, config_in, no_config_in, same_entry_by};
+ghost use Rattle.raft_safety.specs.Inner.CheckerState.{common_len, config_in, no_config_in, same_entry_by};
 
 use super::configs::Configs;
 use crate::entry::Entry;

@@ -1,6 +1,6 @@
 //! What the checker keeps of a server.
 ghost use Rattle.std.specs.Prelude.{◌≡◌, ◌+◌, ◌<◌, ◌≤◌, ◌++◌, ◌&&◌, ◌||◌, [], OnOk, OnErr, drop, length, map, max, min, nat_eq, nat_le, take, vec_capacity, vec_len};
-ghost use Rattle.raft_safety.specs.CheckerState.{at_most, common_len, kept_after, kept_from, same_entry_by};
+ghost use Rattle.raft_safety.specs.Inner.CheckerState.{at_most, common_len, kept_after, kept_from, same_entry_by};
 
 use super::logs::{begins_with, common_len};
 use crate::entry::Entry;

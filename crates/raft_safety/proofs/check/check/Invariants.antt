@@ -6,11 +6,7 @@ use Rattle.raft_safety.proofs.check.check.Given as goal
 abbrev pub invariant-loop-i : goal.invariant-loop-i
 invariant-loop-i g l = record {
   same : l.checker.configs ≡ l.fn.configs;
-  seen : AreExact (tests_of g.T.Term.rank g.T.PartialEq.eq g.N.PartialEq.eq g.D.PartialEq.eq
-      (g.C.Configs.holds_config l.fn.configs) (g.C.Configs.has_quorum l.fn.configs)
-      (g.C.Configs.intersects l.fn.configs))
-      → HasSeen (tests_of g.T.Term.rank g.T.PartialEq.eq g.N.PartialEq.eq g.D.PartialEq.eq
-      (g.C.Configs.holds_config l.fn.configs) (g.C.Configs.has_quorum l.fn.configs)
-      (g.C.Configs.intersects l.fn.configs))
+  seen : AreExact (tests_of (record { eq = g.T.PartialEq.eq; rank = g.T.Term.rank }) g.N.PartialEq g.D.PartialEq g.C.Configs l.fn.configs)
+      → HasSeen (tests_of (record { eq = g.T.PartialEq.eq; rank = g.T.Term.rank }) g.N.PartialEq g.D.PartialEq g.C.Configs l.fn.configs)
       (trace_of (take l.i l.events)) l.checker.servers.items l.checker.leaders.items;
 }

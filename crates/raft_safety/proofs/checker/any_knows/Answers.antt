@@ -1,5 +1,5 @@
 use Rattle.std.proofs.Common.{◌∙◌, refl, sym, arith}
-use Rattle.raft_safety.specs.CheckerState.{knows, same_entry_by}
+use Rattle.raft_safety.specs.Inner.CheckerState.{knows, same_entry_by}
 use Rattle.raft_safety.proofs.lemmas.LoopLemmas.{any_here, any_later, any_nowhere}
 use Rattle.raft_safety.proofs.checker.any_knows.Goals as goal
 

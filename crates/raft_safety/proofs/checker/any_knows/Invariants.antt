@@ -1,6 +1,6 @@
 use Rattle.std.proofs.Common.{◌≡◌, drop}
 use Rattle.std.specs.List.{list_any}
-use Rattle.raft_safety.specs.CheckerState.{knows, same_entry_by}
+use Rattle.raft_safety.specs.Inner.CheckerState.{knows, same_entry_by}
 use Rattle.raft_safety.proofs.checker.any_knows.Given as goal
 
 abbrev pub invariant-loop-leader : goal.invariant-loop-leader

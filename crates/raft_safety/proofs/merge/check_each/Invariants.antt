@@ -9,9 +9,7 @@ use Rattle.raft_safety.proofs.merge.check_each.Given as goal
 abbrev pub invariant-loop-checker : goal.invariant-loop-checker
 invariant-loop-checker g l =
     let k =
-    tests_of g.T.Term.rank g.T.PartialEq.eq g.N.PartialEq.eq g.D.PartialEq.eq
-    (g.C.Configs.holds_config l.fn.configs) (g.C.Configs.has_quorum l.fn.configs)
-    (g.C.Configs.intersects l.fn.configs) in
+    tests_of (record { eq = g.T.PartialEq.eq; rank = g.T.Term.rank }) g.N.PartialEq g.D.PartialEq g.C.Configs l.fn.configs in
     record {
       configs : l.checker.configs ≡ l.fn.configs;
       counts : length l.placed.items ≡ length l.lists;

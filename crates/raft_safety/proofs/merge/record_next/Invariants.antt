@@ -8,9 +8,7 @@ use Rattle.raft_safety.proofs.merge.record_next.Given as goal
 abbrev pub invariant-loop-i : goal.invariant-loop-i
 invariant-loop-i g l =
     let k =
-    tests_of g.T.Term.rank g.T.PartialEq.eq g.N.PartialEq.eq g.D.PartialEq.eq
-    (g.C.Configs.holds_config l.fn.checker.configs) (g.C.Configs.has_quorum l.fn.checker.configs)
-    (g.C.Configs.intersects l.fn.checker.configs) in
+    tests_of (record { eq = g.T.PartialEq.eq; rank = g.T.Term.rank }) g.N.PartialEq g.D.PartialEq g.C.Configs l.fn.checker.configs in
     record {
       configs : l.checker.configs ≡ l.fn.checker.configs;
       placed : l.placed ≡ l.fn.placed;

@@ -1,7 +1,7 @@
 use Rattle.std.specs.Result.{IsOk}
 use Rattle.std.proofs.Common.{arith, sym, refl, ◌∙◌, ap, max, length}
 use Rattle.std.proofs.lemmas.Result.{err_from_is_err_and}
-use Rattle.raft_safety.specs.CheckerState.{kept_after}
+use Rattle.raft_safety.specs.Inner.CheckerState.{kept_after}
 use Rattle.raft_safety.proofs.lemmas.CheckerLemmas.{campaign_again, campaign_refused}
 use Rattle.raft_safety.proofs.lemmas.CheckerStepLemmas.{campaign_done, same_server}
 use Rattle.raft_safety.proofs.checker.Checker.campaigned.Goals as goal

@@ -1,5 +1,5 @@
 use Rattle.std.proofs.Common.{sym, ◌∙◌, ap, take, None}
-use Rattle.raft_safety.specs.CheckerState.{config_in}
+use Rattle.raft_safety.specs.Inner.CheckerState.{config_in}
 use Rattle.raft_safety.specs.Configs.{effective_config}
 use Rattle.std.specs.Set.{is_member}
 use Rattle.raft_safety.proofs.lemmas.CheckerStepLemmas.{commit_unled, commit_refused, commit_uncounted, commit_done}

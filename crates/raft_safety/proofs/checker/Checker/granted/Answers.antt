@@ -1,6 +1,6 @@
 use Rattle.std.proofs.Common.{sym, refl, ◌∙◌, ap, max, length}
 use Rattle.std.proofs.lemmas.Result.{err_from_is_err_and}
-use Rattle.raft_safety.specs.CheckerState.{kept_after}
+use Rattle.raft_safety.specs.Inner.CheckerState.{kept_after}
 use Rattle.raft_safety.proofs.lemmas.CheckerLemmas.{grant_refused}
 use Rattle.raft_safety.proofs.lemmas.CheckerStepLemmas.{grant_done, grant_unled, same_leader_again, same_server}
 use Rattle.raft_safety.proofs.lemmas.LoopLemmas.{within_len}

@@ -1,5 +1,5 @@
 use Rattle.std.proofs.Common.{length, sym}
-use Rattle.raft_safety.specs.CheckerState.{common_len, same_entry_by}
+use Rattle.raft_safety.specs.Inner.CheckerState.{common_len, same_entry_by}
 use Rattle.raft_safety.proofs.lemmas.CheckerCodeLemmas.{common_within, not_longer}
 use Rattle.raft_safety.proofs.checker.logs.begins_with.Goals as goal
 

@@ -1,5 +1,5 @@
 use Rattle.std.proofs.Common.{◌≡◌, ◌+◌, ◌∙◌, true, false, suc, drop, length, min, sym, arith}
-use Rattle.raft_safety.specs.CheckerState.{common_len, same_entry_by}
+use Rattle.raft_safety.specs.Inner.CheckerState.{common_len, same_entry_by}
 use Rattle.raft_safety.proofs.lemmas.CheckerCodeLemmas.{common_end, common_more}
 use Rattle.raft_safety.proofs.checker.logs.common_len.Goals as goal
 

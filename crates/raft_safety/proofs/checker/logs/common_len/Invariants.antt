@@ -1,5 +1,5 @@
 use Rattle.std.proofs.Common.{◌≡◌, ◌+◌, drop}
-use Rattle.raft_safety.specs.CheckerState.{common_len, same_entry_by}
+use Rattle.raft_safety.specs.Inner.CheckerState.{common_len, same_entry_by}
 use Rattle.raft_safety.proofs.checker.logs.common_len.Given as goal
 
 abbrev pub invariant-loop-i : goal.invariant-loop-i

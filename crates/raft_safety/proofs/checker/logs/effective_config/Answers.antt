@@ -2,7 +2,7 @@ use Rattle.std.proofs.Common.{◌∙◌, None, true, false, ap, refl, sym, arith
 use Rattle.std.proofs.lemmas.List.{at_drop_all}
 use Rattle.raft_safety.specs.Log.{Entry}
 use Rattle.raft_safety.specs.Configs.{effective_config}
-use Rattle.raft_safety.specs.CheckerState.{config_in}
+use Rattle.raft_safety.specs.Inner.CheckerState.{config_in}
 use Rattle.raft_safety.proofs.lemmas.LoopLemmas.{config_later}
 use Rattle.raft_safety.proofs.checker.logs.effective_config.Goals as goal
 use Rattle.raft_safety.proofs.checker.logs.effective_config.Goals.{then-holds_config, else-holds_config}

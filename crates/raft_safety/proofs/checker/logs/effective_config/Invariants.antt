@@ -1,6 +1,6 @@
 use Rattle.std.proofs.Common.{◌≡◌, None, drop}
 use Rattle.raft_safety.specs.Configs.{effective_config}
-use Rattle.raft_safety.specs.CheckerState.{config_in}
+use Rattle.raft_safety.specs.Inner.CheckerState.{config_in}
 use Rattle.raft_safety.proofs.checker.logs.effective_config.Given as goal
 
 abbrev pub invariant-loop-entry : goal.invariant-loop-entry

@@ -1,5 +1,5 @@
 use Rattle.std.proofs.Common.{◌≡◌, drop}
-use Rattle.raft_safety.specs.CheckerState.{no_config_in}
+use Rattle.raft_safety.specs.Inner.CheckerState.{no_config_in}
 use Rattle.raft_safety.proofs.checker.logs.holds_no_config.Given as goal
 
 abbrev pub invariant-loop-entry : goal.invariant-loop-entry

@@ -1,5 +1,5 @@
 use Rattle.std.proofs.Common.{◌≡◌, drop}
-use Rattle.raft_safety.specs.CheckerState.{kept_from}
+use Rattle.raft_safety.specs.Inner.CheckerState.{kept_from}
 use Rattle.raft_safety.proofs.checker.server.kept_since.Given as goal
 
 abbrev pub invariant-loop-k : goal.invariant-loop-k

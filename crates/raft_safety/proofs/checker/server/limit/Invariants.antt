@@ -1,5 +1,5 @@
 use Rattle.std.proofs.Common.{◌≡◌, ◌++◌, drop, map, take}
-use Rattle.raft_safety.specs.CheckerState.{at_most}
+use Rattle.raft_safety.specs.Inner.CheckerState.{at_most}
 use Rattle.raft_safety.proofs.checker.server.limit.Given as goal
 
 abbrev pub invariant-loop-i : goal.invariant-loop-i

@@ -1,6 +1,6 @@
 use Rattle.std.proofs.Common.{◌<◌, ◌∙◌, length, ap, refl, arith}
 use Rattle.std.proofs.lemmas.List.{take_all}
-use Rattle.raft_safety.specs.CheckerState.{has_acked_to}
+use Rattle.raft_safety.specs.Inner.CheckerState.{has_acked_to}
 use Rattle.raft_safety.proofs.lemmas.CheckerCodeLemmas.{counted, not_counted, distinct_none}
 use Rattle.raft_safety.proofs.checker.leader.Leader.acked_to.Goals as goal
 use Rattle.raft_safety.proofs.checker.leader.Leader.acked_to.Goals.{then-len-acked+in_ok-add_once, else-len-acked}

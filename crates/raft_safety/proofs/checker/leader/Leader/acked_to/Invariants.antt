@@ -1,7 +1,7 @@
 use Rattle.std.proofs.Common.{◌≡◌, take}
 use Rattle.std.specs.List.{IsDistinct}
 use Rattle.std.specs.Set.{is_member}
-use Rattle.raft_safety.specs.CheckerState.{has_acked_to}
+use Rattle.raft_safety.specs.Inner.CheckerState.{has_acked_to}
 use Rattle.raft_safety.proofs.checker.leader.Leader.acked_to.Given as goal
 
 abbrev pub invariant-loop-acked : goal.invariant-loop-acked

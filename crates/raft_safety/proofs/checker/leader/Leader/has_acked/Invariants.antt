@@ -1,5 +1,5 @@
 use Rattle.std.proofs.Common.{◌≡◌, drop}
-use Rattle.raft_safety.specs.CheckerState.{has_acked_to}
+use Rattle.raft_safety.specs.Inner.CheckerState.{has_acked_to}
 use Rattle.raft_safety.proofs.checker.leader.Leader.has_acked.Given as goal
 
 abbrev pub invariant-loop-acked : goal.invariant-loop-acked

@@ -1,56 +1,13 @@
 -- What the checker keeps of a server and of a leader, and which rule an event breaks by it.
-use Rattle.std.specs.Prelude.{
-  ◌≡◌,
-  ◌⊎◌,
-  ◌+◌,
-  ℕ,
-  suc,
-  Bool,
-  false,
-  not,
-  ◌&&◌,
-  ◌||◌,
-  nat_lt,
-  nat_le,
-  nat_eq,
-  min,
-  if◌then◌else◌,
-  Option,
-  Some,
-  None,
-  List,
-  [],
-  ◌∷◌,
-  ◌++◌,
-  length,
-  take,
-  drop,
-}
+use Rattle.std.specs.Prelude.{◌≡◌, ◌⊎◌, ◌+◌, ℕ, suc, Bool, false, not, ◌&&◌, ◌||◌, nat_lt, nat_le, nat_eq, min, if◌then◌else◌, Option, Some, None, List, [], ◌∷◌, ◌++◌, length, take, drop}
 use Rattle.std.specs.List.{list_any, list_all, position}
 use Rattle.raft_safety.specs.Log.{Entry, last_term}
 use Rattle.raft_safety.specs.Configs.{effective_config}
 use Rattle.raft_safety.specs.declared.checker.server.Server.{Server}
 use Rattle.raft_safety.specs.declared.checker.leader.Leader.{Leader}
+use Rattle.raft_safety.specs.Trace.{unless}
 use Rattle.raft_safety.specs.declared.rule.Rule.{Rule}
-use Rattle.raft_safety.specs.declared.rule.Rule.TheVariants.{
-  PassedTerm,
-  OwnCandidate,
-  CandidateBehind,
-  NotElected,
-  MissingEntries,
-  DropsMatching,
-  ForeignEntries,
-  TermNotReached,
-  NotWritten,
-  NotKept,
-  LostAcked,
-  OtherTerm,
-  ApartConfigs,
-  ApartQuorums,
-  EarlyConfig,
-  EarlierTerm,
-  CountedEarly,
-}
+use Rattle.raft_safety.specs.declared.rule.Rule.TheVariants.{PassedTerm, OwnCandidate, CandidateBehind, NotElected, MissingEntries, DropsMatching, ForeignEntries, TermNotReached, NotWritten, NotKept, LostAcked, OtherTerm, ApartConfigs, ApartQuorums, EarlyConfig, EarlierTerm, CountedEarly}
 use Rattle.raft_safety.specs.declared.checker.server.Kept.{Kept}
 use Rattle.raft_safety.specs.declared.checker.leader.Acked.{Acked}
 
@@ -91,10 +48,6 @@ kept_after ks term len next = if nat_lt term next then ks ++ record { term = ter
 -- a server has acknowledged so many entries or more
 abbrev pub has_acked_to : {N : Type 0} → (N → N → Bool) → List (Acked N) → N → ℕ → Bool
 has_acked_to eq acks v n = list_any (λ a. eq a.server v && nat_le n a.len) acks
-
--- the rule is broken unless the test holds; then a later one may be
-abbrev pub unless : Bool → Rule → Option Rule → Option Rule
-unless holds rule rest = if holds then rest else Some rule
 
 -- a log is at least as up to date as another
 abbrev pub up_to_date_by : {T D : Type 0} → (T → ℕ) → List (Entry T D) → List (Entry T D) → Bool
