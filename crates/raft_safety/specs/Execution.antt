@@ -2,9 +2,9 @@
 -- and reorder messages, where servers crash and restart.
 use Rattle.std.specs.Prelude.{◌≡◌, ◌⊎◌, ◌≤◌, ℕ, Bool, Option, Some, List, [], ◌∷◌, ◌++◌, length, take}
 use Rattle.raft_safety.specs.Log.{Entry, IsPrefix, AllOfTerm}
-use Rattle.raft_safety.specs.Events.{Event, GrantVote, Append, Ack, Restart, History, log_after}
+use Rattle.raft_safety.specs.Events.{Event, GrantVote, LateVote, Append, Ack, Restart, History, log_after}
 use Rattle.raft_safety.specs.Facts.{HasVoted, HasAcked, IsElected, IsCommitted, IsAppendEntries}
-use Rattle.raft_safety.specs.Rules.{MayGrantVote, MayAppend, MayAck, MayRestart}
+use Rattle.raft_safety.specs.Rules.{MayGrantVote, MayVoteLate, MayAppend, MayAck, MayRestart}
 use Rattle.raft_safety.specs.Safety.{IsSafe}
 use Rattle.raft_safety.specs.Apply.{MayApply}
 use Rattle.raft_safety.specs.Ranks.{IsAmong}
@@ -18,6 +18,7 @@ module _ {T ID D M : Type 0} (rank : T → ℕ) (config_of : D → Option M) (in
     abbrev pub MayDo : ID → Event T ID D → Type 0
     MayDo s (GrantVote t c) =
         MayGrantVote rank (is_quorum rank config_of initial quorum_of) new s (old.events s) t c
+    MayDo s (LateVote t c) = MayVoteLate rank (old.events s) t
     MayDo s (Append t c log) =
         MayAppend rank (is_quorum rank config_of initial quorum_of) old (old.events s) t c log
     MayDo s (Ack t c n) =

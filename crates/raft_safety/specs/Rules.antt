@@ -2,7 +2,7 @@
 -- leaders have sent, and of who was elected. It never speaks of two servers at one moment.
 use Rattle.std.specs.Prelude.{◌≡◌, ◌⊎◌, ◌<◌, ◌≤◌, ℕ, Bool, List, [], ◌∷◌, ◌++◌, length, take}
 use Rattle.raft_safety.specs.Log.{Entry, IsPrefix, IsUpToDate, AllOfTerm}
-use Rattle.raft_safety.specs.Events.{Event, GrantVote, Append, Ack, Restart, History, term_after, log_after, HasHad, HasKept, IsDurable}
+use Rattle.raft_safety.specs.Events.{Event, GrantVote, LateVote, Append, Ack, Restart, History, term_after, voted_after, log_after, HasHad, HasKept, IsDurable}
 use Rattle.raft_safety.specs.Facts.{IsElected}
 
 -- a restart keeps terms, votes and what is durable. Entries that are not durable may be lost, and a
@@ -12,14 +12,19 @@ pub record MayRestart {T ID D : Type 0} (es : List (Event T ID D)) (log : List (
     pub had : HasHad log es
     pub keeps : (p : List (Entry T D)) → IsDurable p es → IsPrefix p log
 
+-- a server may also vote in a term in which it has taken entries, if it has not voted in that term and
+-- has passed no greater one, as the Raft paper has it. No election counts this vote, so the candidate's
+-- log plays no part: whoever has taken entries in a term took them from its elected leader
+pub record MayVoteLate {T ID D : Type 0} (rank : T → ℕ) (es : List (Event T ID D)) (t : T) : Type 0
+  where
+    pub term : term_after rank es ≡ rank t
+    pub voted : voted_after rank es < rank t
+
 module _ {T ID D : Type 0} (rank : T → ℕ) (quorum : List (Entry T D) → (ID → Bool) → Bool)
     (h : History T ID D) where
   -- a server grants its vote only in a term that is greater than the one that it has reached, and
   -- only to a candidate whose log is at least as up to date as its own. The log with which a
-  -- candidate asks for votes is its log as it is. So a server votes once in a term, and not after it
-  -- has taken entries from that term's leader. The Raft paper allows such a vote, if it is the first
-  -- one of the server in the term. Etcd's and hashicorp's Raft grant some of these votes, and
-  -- openraft grants none
+  -- candidate asks for votes is its log as it is
   pub record MayGrantVote (s : ID) (es : List (Event T ID D)) (t : T) (c : ID) : Type 0 where
     pub term : term_after rank es < rank t
     pub up_to_date : IsUpToDate rank (h.candidate_log t c) (log_after es)
@@ -49,6 +54,7 @@ module _ {T ID D : Type 0} (rank : T → ℕ) (quorum : List (Entry T D) → (ID
   abbrev pub EventsFollowRules : ID → List (Event T ID D) → Type 0
   EventsFollowRules s [] = Unit {0}
   EventsFollowRules s (GrantVote t c ∷ es) = MayGrantVote s es t c × EventsFollowRules s es
+  EventsFollowRules s (LateVote t c ∷ es) = MayVoteLate rank es t × EventsFollowRules s es
   EventsFollowRules s (Append t c log ∷ es) = MayAppend es t c log × EventsFollowRules s es
   EventsFollowRules s (Ack t c n ∷ es) = MayAck es t c n × EventsFollowRules s es
   EventsFollowRules s (Restart log ∷ es) = MayRestart es log × EventsFollowRules s es

@@ -3,7 +3,7 @@
 --
 -- A trace is written here with its earliest event first, and `reverse` turns it. Server ids and
 -- contents are numbers. Each trace that is allowed is an execution, so it is safe.
-use Rattle.std.specs.Prelude.{◌≡◌, ℕ, true, ◌&&◌, nat_eq, if◌then◌else◌, Option, Some, None, List, [], ◌∷◌, ◌++◌, reverse}
+use Rattle.std.specs.Prelude.{◌≡◌, ℕ, true, ◌&&◌, nat_eq, if◌then◌else◌, Option, Some, None, List, [], ◌∷◌, ◌++◌, reverse, false}
 use Rattle.std.specs.Ordering.{nat_cmp}
 use Rattle.raft_base.specs.LeaderId.{leader_id_cmp}
 use Rattle.raft_base.specs.declared.leader_id.LeaderId.{LeaderId}
@@ -15,7 +15,7 @@ use Rattle.raft_safety.specs.Facts.{IsCommitted, IsElected}
 use Rattle.raft_safety.specs.Rules.{MayRestart}
 use Rattle.raft_safety.specs.Configs.{is_quorum}
 use Rattle.raft_safety.specs.Ranks.{rank_in}
-use Rattle.raft_safety.specs.Trace.{broken_rule, TraceEvent, Campaigned, Granted, Appended, Acked, Restarted, Wrote, Committed, Applied, Tests, IsSafeTrace, are_allowed, campaign_terms, history, is_elected, log_in}
+use Rattle.raft_safety.specs.Trace.{broken_rule, TraceEvent, Campaigned, Granted, Appended, Acked, Restarted, Wrote, Committed, Applied, Tests, IsSafeTrace, are_allowed, campaign_terms, history, is_elected, log_in, has_voted, events_in}
 use Rattle.raft_safety.specs.declared.rule.Rule.{Rule}
 use Rattle.raft_safety.specs.declared.rule.Rule.TheVariants.{ApartConfigs, CandidateBehind, CountedEarly, DropsMatching, EarlierTerm, EarlyConfig, ForeignEntries, LostAcked, NoCampaign, NoQuorum, NotCommitted, NotElected, NotKept, OtherTerm, PassedTerm}
 
@@ -457,6 +457,10 @@ heard =
     ∷ Campaigned 1 1
     ∷ []
 
+-- then server 3 votes for server 1, which no election counts
+abbrev pub voted_late : List Row
+voted_late = heard ++ Granted 3 1 1 ∷ []
+
 -- server 9 is no member, and has acknowledged the leader's entry
 abbrev pub foreign_ack : List Row
 foreign_ack = led ++ Appended 9 1 0 0 (entry 1 10 ∷ []) ∷ Acked 9 1 0 1 ∷ []
@@ -476,12 +480,14 @@ joint_on_old =
 pub record AreRefusedByRule : Type 0 where
   pub led_allowed : IsAllowedTrace three led
   pub behind_allowed : IsAllowedTrace three behind
-  pub heard_allowed : IsAllowedTrace five heard
+  pub late_vote_allowed : IsAllowedTrace five voted_late
+  pub late_vote_not_counted :
+      has_voted five 1 1 (events_in five (reverse voted_late) 3) ≡ false
   pub foreign_ack_allowed : IsAllowedTrace three foreign_ack
   pub joint_on_old_allowed : IsAllowedTrace three joint_on_old
   -- votes
   pub second_vote : then_breaks three led (Granted 1 1 2) ≡ Some PassedTerm
-  pub vote_after_leader : then_breaks five heard (Granted 3 1 1) ≡ Some PassedTerm
+  pub second_late_vote : then_breaks five voted_late (Granted 3 1 0) ≡ Some PassedTerm
   pub candidate_behind : then_breaks three behind (Granted 1 2 2) ≡ Some CandidateBehind
   pub older_last_term : then_breaks five figure_8_c (Granted 4 4 0) ≡ Some CandidateBehind
   -- entries

@@ -3,7 +3,7 @@
 -- not name.
 use Rattle.std.specs.Prelude.{◌≡◌, ◌⊎◌, ℕ, Bool, true, false, not, ◌&&◌, ◌||◌, nat_lt, nat_le, nat_eq, min, max, if◌then◌else◌, Option, Some, None, is_none, List, [], ◌∷◌, ◌++◌, length, take, drop}
 use Rattle.raft_safety.specs.Log.{Entry, IsPrefix, last_term}
-use Rattle.raft_safety.specs.Events.{Event, GrantVote, Append, Ack, Restart, History, term_after, log_after}
+use Rattle.raft_safety.specs.Events.{Event, GrantVote, LateVote, Append, Ack, Restart, History, term_after, voted_after, log_after}
 use Rattle.raft_safety.specs.Configs.{effective_config, is_quorum, QuorumsIntersect}
 use Rattle.raft_safety.specs.Ranks.{IsAmong}
 use Rattle.raft_safety.specs.Safety.{IsSafe}
@@ -16,7 +16,8 @@ use Rattle.raft_safety.specs.declared.rule.Rule.TheVariants.{PassedTerm, Campaig
 pub data TraceEvent (T ID D : Type 0) : Type 0 where
   -- a server starts a campaign in a term, with its log as it is, and votes for itself
   Campaigned : ID → T → TraceEvent T ID D
-  -- a server grants its vote in a term to another, a candidate
+  -- a server grants its vote in a term to another, a candidate. If it has taken entries in the term, no
+  -- election counts the vote
   Granted : ID → T → ID → TraceEvent T ID D
   -- a server takes entries in a term from its leader: it keeps so many first entries of its log, and
   -- has these after them
@@ -58,6 +59,11 @@ module _ {T ID D : Type 0} where
   and_restart n es = Restart (take n (log_after es)) ∷ es
 
 module _ {T ID D M : Type 0} (k : Tests T ID D M) where
+  -- events of a server, and one more: it votes in a term, late if it has reached the term already
+  abbrev pub and_vote : T → ID → List (Event T ID D) → List (Event T ID D)
+  and_vote t c es =
+      (if nat_lt (term_after k.rank es) (k.rank t) then GrantVote t c else LateVote t c) ∷ es
+
   -- the leader or candidate of one term is that of the other
   abbrev pub same_leader : T → ID → T → ID → Bool
   same_leader t c u d = k.same_term t u && k.same_id c d
@@ -68,7 +74,7 @@ module _ {T ID D M : Type 0} (k : Tests T ID D M) where
   events_in (Campaigned r t ∷ es) s =
       if k.same_id r s then GrantVote t r ∷ events_in es s else events_in es s
   events_in (Granted r t c ∷ es) s =
-      if k.same_id r s then GrantVote t c ∷ events_in es s else events_in es s
+      if k.same_id r s then and_vote t c (events_in es s) else events_in es s
   events_in (Appended r t c n sent ∷ es) s =
       if k.same_id r s then and_append t c n sent (events_in es s) else events_in es s
   events_in (Acked r t c n ∷ es) s =
@@ -84,6 +90,10 @@ module _ {T ID D M : Type 0} (k : Tests T ID D M) where
   -- the rank of the term that a server has reached
   abbrev pub term_in : List (TraceEvent T ID D) → ID → ℕ
   term_in es s = term_after k.rank (events_in es s)
+
+  -- the rank of the term in which a server has voted last, 0 if it has not voted
+  abbrev pub voted_in : List (TraceEvent T ID D) → ID → ℕ
+  voted_in es s = voted_after k.rank (events_in es s)
 
   -- the log with which the candidate of a term asked for votes
   abbrev pub candidate_log_in : List (TraceEvent T ID D) → T → ID → List (Entry T D)
@@ -235,7 +245,7 @@ module _ {T ID D M : Type 0} (k : Tests T ID D M) where
       (unless (nat_lt (term_in k es c) (k.rank t)) PassedTerm None)
   broken_rule (Granted s t c) es =
       unless (has_campaigned t c es) NoCampaign
-      (unless (nat_lt (term_in k es s) (k.rank t)) PassedTerm
+      (unless (nat_le (term_in k es s) (k.rank t) && nat_lt (voted_in k es s) (k.rank t)) PassedTerm
       (unless (not (k.same_id c s)) OwnCandidate
       (unless (is_up_to_date k (candidate_log_in k es t c) (log_in k es s)) CandidateBehind None)))
   broken_rule (Appended s t c n sent) es =

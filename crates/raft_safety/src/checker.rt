@@ -154,6 +154,10 @@ impl<T: Term, N: Copy + Eq, D: Copy + Eq, C: Configs<N, D> + Drop> Checker<T, N,
             None => {}
         }
         let voter = &mut self.servers[i];
+        if rank <= voter.term {
+            voter.vote_late(rank);
+            return Ok(());
+        }
         voter.make_room()?;
         self.leaders[j].vote(&self.configs, server)?;
         voter.reach(rank);

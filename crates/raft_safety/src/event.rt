@@ -15,7 +15,8 @@ pub enum Event<T, N, D> {
         /// The term.
         term: T,
     },
-    /// A server grants its vote in a term to another server. The vote is durable.
+    /// A server grants its vote in a term to another server. The vote is durable. If the server has
+    /// taken entries in the term, no election counts the vote.
     Granted {
         /// The server.
         server: N,

@@ -4,7 +4,7 @@ use Rattle.std.proofs.Common.{sym, ap, ◌∙◌, inl, inr, arith}
 use Rattle.std.proofs.lemmas.Bool.{cases_lt}
 use Rattle.std.proofs.lemmas.List.{length-take-le}
 use Rattle.raft_safety.specs.Log.{Entry, IsPrefix}
-use Rattle.raft_safety.specs.Events.{Ack, Append, Event, GrantVote, History, Restart, log_after, term_after}
+use Rattle.raft_safety.specs.Events.{Ack, Append, Event, GrantVote, LateVote, History, Restart, log_after, term_after}
 use Rattle.raft_safety.specs.Facts.{HasAcked, IsElected}
 use Rattle.raft_safety.specs.Rules.{EventsFollowRules, FollowsRaft}
 use Rattle.raft_safety.specs.Safety.{IsSafe}
@@ -25,6 +25,7 @@ module _ {T ID D : Type 0} (rank : T → ℕ) (quorum : List (Entry T D) → (ID
       → EventsFollowRules rank quorum h s es → HasAcked t c n es → IsOfElected rank quorum h t c n
   acked_elected s t c n [] ok a = absurd a
   acked_elected s t c n (GrantVote u d ∷ es) ok a = acked_elected s t c n es ok.1 a
+  acked_elected s t c n (LateVote u d ∷ es) ok a = acked_elected s t c n es ok.1 a
   acked_elected s t c n (Append u d log ∷ es) ok a = acked_elected s t c n es ok.1 a
   acked_elected s t c n (Ack u d m ∷ es) ok (inl is) =
       let w : m ≤ length (h.leader_log t c) = rw (is.0, is.1) at ok.0.written in

@@ -1,30 +1,5 @@
 -- What the checker keeps of a leader is what the events say.
-use Rattle.std.specs.Prelude.{
-  ◌≡◌,
-  ◌⊎◌,
-  ◌<◌,
-  ◌≤◌,
-  ℕ,
-  zero,
-  suc,
-  Bool,
-  true,
-  false,
-  ◌&&◌,
-  ◌||◌,
-  nat_lt,
-  if◌then◌else◌,
-  Option,
-  Some,
-  None,
-  List,
-  [],
-  ◌∷◌,
-  ◌++◌,
-  length,
-  get_or,
-  set,
-}
+use Rattle.std.specs.Prelude.{◌≡◌, ◌⊎◌, ◌<◌, ◌≤◌, ℕ, zero, suc, Bool, true, false, ◌&&◌, ◌||◌, nat_lt, if◌then◌else◌, Option, Some, None, List, [], ◌∷◌, ◌++◌, length, get_or, set}
 use Rattle.std.specs.List.{find, list_any, position, position_or_len, slice_get}
 use Rattle.std.specs.Option.{MatchOption}
 use Rattle.std.proofs.Common.{refl, sym, ap, ◌∙◌, subst, inl, inr, arith}
@@ -33,8 +8,8 @@ use Rattle.std.proofs.lemmas.Option.{slice_get_cases, slice_get_past, slice_get-
 use Rattle.std.proofs.lemmas.List.Folds.{find-set, find_past, find_at}
 use Rattle.std.proofs.lemmas.List.Quantifiers.{position-Some}
 use Rattle.raft_safety.specs.Log.{Entry}
-use Rattle.raft_safety.specs.Events.{Event, GrantVote, Ack}
-use Rattle.raft_safety.specs.Trace.{AreExact, Tests, TraceEvent, Campaigned, Granted, Appended, Acked, Restarted, Wrote, Committed, Applied, events_in, candidate_log_in, leader_log_in, has_voted, has_acked, has_campaigned, is_elected, is_config_committed, is_quorum_of_log, same_leader, and_append, and_restart}
+use Rattle.raft_safety.specs.Events.{Event, GrantVote, LateVote, Ack, term_after}
+use Rattle.raft_safety.specs.Trace.{AreExact, Tests, TraceEvent, Campaigned, Granted, Appended, Acked, Restarted, Wrote, Committed, Applied, events_in, candidate_log_in, leader_log_in, has_voted, has_acked, has_campaigned, is_elected, is_config_committed, is_quorum_of_log, same_leader, term_in, and_vote, and_append, and_restart}
 use Rattle.raft_safety.specs.Inner.Seen.{SeesLeader, SeesNoLeader, SeesLeaders, find_leader}
 use Rattle.raft_safety.specs.declared.checker.leader.Leader.{Leader}
 use Rattle.raft_safety.proofs.lemmas.TestLemmas.{leader_right}
@@ -244,6 +219,27 @@ module _ {T ID D : Type 0} (k : Tests T ID D (Option D)) (exact : AreExact k) wh
   vote_no_ack true t u c d n evs = refl
   vote_no_ack false t u c d n evs = refl
 
+  vote_in_other : (b : Bool) (t u : T) (c d : ID) (evs : List (Event T ID D))
+      → same_leader k t c u d ≡ false
+      → has_voted k u d (if b then and_vote k t c evs else evs) ≡ has_voted k u d evs
+  vote_in_other true t u c d evs e = go (nat_lt (term_after k.rank evs) (k.rank t))
+    where
+      go : (v : Bool) → has_voted k u d ((if v then GrantVote t c else LateVote t c) ∷ evs)
+          ≡ has_voted k u d evs
+      go true = rw e refl
+      go false = refl
+  vote_in_other false t u c d evs e = refl
+
+  pub any_vote_no_ack : (b : Bool) (t u : T) (c d : ID) (n : ℕ) (evs : List (Event T ID D))
+      → has_acked k u d n (if b then and_vote k t c evs else evs) ≡ has_acked k u d n evs
+  any_vote_no_ack true t u c d n evs = go (nat_lt (term_after k.rank evs) (k.rank t))
+    where
+      go : (v : Bool) → has_acked k u d n ((if v then GrantVote t c else LateVote t c) ∷ evs)
+          ≡ has_acked k u d n evs
+      go true = refl
+      go false = refl
+  any_vote_no_ack false t u c d n evs = refl
+
   append_no_vote : (b : Bool) (t u : T) (c d : ID) (n : ℕ) (sent : List (Entry T D))
       (evs : List (Event T ID D))
       → has_voted k u d (if b then and_append t c n sent evs else evs) ≡ has_voted k u d evs
@@ -294,10 +290,29 @@ module _ {T ID D : Type 0} (k : Tests T ID D (Option D)) (exact : AreExact k) wh
     campaigned = refl;
     candidate_log = refl;
     leader_log = refl;
-    voted = λ v. vote_of_other (k.same_id s v) t u c d (events_in k es v) e;
-    acked = λ v n. vote_no_ack (k.same_id s v) t u c d n (events_in k es v);
+    voted = λ v. vote_in_other (k.same_id s v) t u c d (events_in k es v) e;
+    acked = λ v n. any_vote_no_ack (k.same_id s v) t u c d n (events_in k es v);
     committed = λ log. refl;
   }
+
+  pub late_vote_same : (es : List (TraceEvent T ID D)) (s : ID) (t u : T) (c d : ID)
+      → nat_lt (term_in k es s) (k.rank t) ≡ false → SameFor es (Granted s t c ∷ es) u d
+  late_vote_same es s t u c d late = record {
+    campaigned = refl;
+    candidate_log = refl;
+    leader_log = refl;
+    voted = λ v. no_vote v (k.same_id s v) refl;
+    acked = λ v n. any_vote_no_ack (k.same_id s v) t u c d n (events_in k es v);
+    committed = λ log. refl;
+  }
+    where
+      no_vote : (v : ID) (b : Bool) → k.same_id s v ≡ b
+          → has_voted k u d (if b then and_vote k t c (events_in k es v) else events_in k es v)
+          ≡ has_voted k u d (events_in k es v)
+      no_vote v true e =
+          let late_here : nat_lt (term_in k es v) (k.rank t) ≡ false = rw (exact.same_id s v e) at late in
+          rw late_here refl
+      no_vote v false e = refl
 
   pub append_same : (es : List (TraceEvent T ID D)) (s : ID) (t u : T) (c d : ID) (n : ℕ)
       (sent : List (Entry T D)) → SameFor es (Appended s t c n sent ∷ es) u d

@@ -1,35 +1,5 @@
 -- What the checker keeps of a server is what its events say.
-use Rattle.std.specs.Prelude.{
-  ◌≡◌,
-  ◌⊎◌,
-  ◌+◌,
-  ◌<◌,
-  ◌≤◌,
-  ℕ,
-  Bool,
-  true,
-  false,
-  ◌&&◌,
-  ◌||◌,
-  nat_lt,
-  nat_le,
-  min,
-  max,
-  if◌then◌else◌,
-  Option,
-  Some,
-  None,
-  List,
-  [],
-  ◌∷◌,
-  ◌++◌,
-  length,
-  take,
-  drop,
-  map,
-  get_or,
-  set,
-}
+use Rattle.std.specs.Prelude.{◌≡◌, ◌⊎◌, ◌+◌, ◌<◌, ◌≤◌, ℕ, Bool, true, false, ◌&&◌, ◌||◌, nat_lt, nat_le, min, max, if◌then◌else◌, Option, Some, None, List, [], ◌∷◌, ◌++◌, length, take, drop, map, get_or, set}
 use Rattle.std.specs.List.{position, position_or_len}
 use Rattle.std.specs.Option.{MatchOption}
 use Rattle.std.proofs.Common.{refl, sym, ap, ◌∙◌, subst, inl, inr, arith}
@@ -38,7 +8,7 @@ use Rattle.std.proofs.lemmas.List.{append-nil}
 use Rattle.std.proofs.lemmas.List.Folds.{find-set, find_past}
 use Rattle.std.proofs.lemmas.List.Quantifiers.{position-Some}
 use Rattle.raft_safety.specs.Log.{Entry}
-use Rattle.raft_safety.specs.Events.{Event, GrantVote, Append, Ack, Restart, term_after, log_after}
+use Rattle.raft_safety.specs.Events.{Event, GrantVote, LateVote, Append, Ack, Restart, term_after, log_after}
 use Rattle.raft_safety.specs.Trace.{AreExact, Tests, TraceEvent, events_in, is_prefix, same_entry, has_kept, durable, and_append, and_restart}
 use Rattle.raft_safety.specs.Inner.CheckerState.{common_len, kept_from, kept_after, at_most}
 use Rattle.raft_safety.specs.Inner.Seen.{SeesServer, SeesServers, kept_at, find_server}
@@ -179,11 +149,12 @@ module _ {T ID D : Type 0} (k : Tests T ID D (Option D)) (exact : AreExact k) wh
   -- a server reaches a term by a vote
   pub sees_vote : (evs : List (Event T ID D)) (s new : Server T ID D) (t : T) (c : ID)
       → SeesServer k evs s → s.term < k.rank t → new.term ≡ max s.term (k.rank t)
-      → new.log.items ≡ s.log.items → new.durable ≡ s.durable
+      → new.voted ≡ k.rank t → new.log.items ≡ s.log.items → new.durable ≡ s.durable
       → new.kept.items ≡ kept_after s.kept.items s.term (length s.log.items) (k.rank t)
       → SeesServer k (GrantVote t c ∷ evs) new
-  sees_vote evs s new t c sees up term log dur kept = record {
+  sees_vote evs s new t c sees up term voted log dur kept = record {
     term = omega arith;
+    voted = sym voted;
     log = sees.log ∙ sym log;
     durable = sees.durable ∙ sym dur;
     kept = λ r h.
@@ -200,16 +171,40 @@ module _ {T ID D : Type 0} (k : Tests T ID D (Option D)) (exact : AreExact k) wh
       small : (r : ℕ) → min (kept_at k r evs) (length (log_after evs)) ≡ kept_at k r evs
       small r = let h : kept_at k r evs ≤ length (log_after evs) = kept_short k exact r evs in omega arith
 
+  -- a server votes in a term that it has reached
+  pub sees_late_vote : (evs : List (Event T ID D)) (s new : Server T ID D) (t : T) (c : ID)
+      → SeesServer k evs s → new.term ≡ s.term → new.voted ≡ k.rank t → new.log.items ≡ s.log.items
+      → new.durable ≡ s.durable → new.kept.items ≡ s.kept.items
+      → SeesServer k (LateVote t c ∷ evs) new
+  sees_late_vote evs s new t c sees term voted log dur kept = record {
+    term = sees.term ∙ sym term;
+    voted = sym voted;
+    log = sees.log ∙ sym log;
+    durable = sees.durable ∙ sym dur;
+    kept = λ r h.
+        (let below : r < s.term = omega arith in
+        let still : r < term_after k.rank (LateVote t c ∷ evs) = rw sees.term below in
+        kept_earlier k exact r (LateVote t c) evs still
+        ∙ ap (λ x. min (kept_at k r evs) x)
+        (common_itself (same_entry k) (entry_right k exact) (entry_itself k exact) (log_after evs))
+        ∙ small r ∙ sees.kept r below ∙ ap (λ ks. kept_from 0 ks r) (sym kept));
+  }
+    where
+      small : (r : ℕ) → min (kept_at k r evs) (length (log_after evs)) ≡ kept_at k r evs
+      small r = let h : kept_at k r evs ≤ length (log_after evs) = kept_short k exact r evs in omega arith
+
   -- a server takes entries
   pub sees_append : (evs : List (Event T ID D)) (s new : Server T ID D) (t : T) (c : ID) (n : ℕ)
       (sent : List (Entry T D)) → SeesServer k evs s → s.term ≤ k.rank t → n ≤ length s.log.items
-      → new.term ≡ max s.term (k.rank t) → new.log.items ≡ take n s.log.items ++ sent
+      → new.term ≡ max s.term (k.rank t) → new.voted ≡ s.voted
+      → new.log.items ≡ take n s.log.items ++ sent
       → new.durable ≡ min s.durable (n + common_len (same_entry k) (drop n s.log.items) sent)
       → new.kept.items ≡ map (at_most (n + common_len (same_entry k) (drop n s.log.items) sent))
       (kept_after s.kept.items s.term (length s.log.items) (k.rank t))
       → SeesServer k (and_append t c n sent evs) new
-  sees_append evs s new t c n sent sees le within term log dur kept = record {
+  sees_append evs s new t c n sent sees le within term voted log dur kept = record {
     term = omega arith;
+    voted = sees.voted ∙ sym voted;
     log = ap (λ l. take n l ++ sent) sees.log ∙ sym log;
     durable =
         ap (λ x. min (durable k evs) x)
@@ -247,11 +242,12 @@ module _ {T ID D : Type 0} (k : Tests T ID D (Option D)) (exact : AreExact k) wh
 
   -- a server acknowledges entries
   pub sees_ack : (evs : List (Event T ID D)) (s new : Server T ID D) (t : T) (c : ID) (n : ℕ)
-      → SeesServer k evs s → new.term ≡ s.term → new.log.items ≡ s.log.items
+      → SeesServer k evs s → new.term ≡ s.term → new.voted ≡ s.voted → new.log.items ≡ s.log.items
       → new.durable ≡ max n s.durable → new.kept.items ≡ s.kept.items
       → SeesServer k (Ack t c n ∷ evs) new
-  sees_ack evs s new t c n sees term log dur kept = record {
+  sees_ack evs s new t c n sees term voted log dur kept = record {
     term = sees.term ∙ sym term;
+    voted = sees.voted ∙ sym voted;
     log = sees.log ∙ sym log;
     durable = ap (λ x. max n x) sees.durable ∙ sym dur;
     kept = λ r h.
@@ -268,11 +264,12 @@ module _ {T ID D : Type 0} (k : Tests T ID D (Option D)) (exact : AreExact k) wh
 
   -- a server restarts
   pub sees_restart : (evs : List (Event T ID D)) (s new : Server T ID D) (n : ℕ)
-      → SeesServer k evs s → n ≤ length s.log.items → new.term ≡ s.term
+      → SeesServer k evs s → n ≤ length s.log.items → new.term ≡ s.term → new.voted ≡ s.voted
       → new.log.items ≡ take n s.log.items → new.durable ≡ min s.durable n
       → new.kept.items ≡ map (at_most n) s.kept.items → SeesServer k (and_restart n evs) new
-  sees_restart evs s new n sees within term log dur kept = record {
+  sees_restart evs s new n sees within term voted log dur kept = record {
     term = sees.term ∙ sym term;
+    voted = sees.voted ∙ sym voted;
     log = ap (λ l. take n l) sees.log ∙ sym log;
     durable =
         ap (λ x. min (durable k evs) x)
@@ -301,10 +298,11 @@ module _ {T ID D : Type 0} (k : Tests T ID D (Option D)) (exact : AreExact k) wh
 
   -- ---- all servers
 
-  pub sees_new : (new : Server T ID D) → new.term ≡ 0 → new.log.items ≡ [] → new.durable ≡ 0
+  pub sees_new : (new : Server T ID D) → new.term ≡ 0 → new.voted ≡ 0 → new.log.items ≡ [] → new.durable ≡ 0
       → new.kept.items ≡ [] → SeesServer k [] new
-  sees_new new term log dur kept = record {
+  sees_new new term voted log dur kept = record {
     term = sym term;
+    voted = sym voted;
     log = sym log;
     durable = sym dur;
     kept = λ r h. absurd (omega arith);

@@ -4,19 +4,19 @@ use Rattle.std.specs.Cmp.{first_so, second_so}
 use Rattle.std.specs.List.{find, list_any, position, IsDistinct}
 use Rattle.std.specs.Option.{MatchOption, unwrap_or, option_or}
 use Rattle.std.specs.Set.{is_member}
-use Rattle.std.proofs.Common.{refl, sym, ap, ◌∙◌, subst, inl, inr, arith, ltb-true}
+use Rattle.std.proofs.Common.{refl, sym, ap, ◌∙◌, subst, inl, inr, arith}
 use Rattle.std.proofs.lemmas.List.Folds.{find-append}
 use Rattle.std.proofs.lemmas.List.Quantifiers.{position-Some}
-use Rattle.raft_safety.specs.declared.rule.Rule.TheVariants.{OwnCandidate, CandidateBehind, OtherTerm, ApartConfigs, ApartQuorums, EarlyConfig, EarlierTerm, CountedEarly, NoQuorum, NotAcked, NotCommitted, CampaignedTwice, NotElected, PassedTerm, MissingEntries, DropsMatching, ForeignEntries, TermNotReached, NotWritten, NotKept, LostAcked}
+use Rattle.raft_safety.specs.declared.rule.Rule.TheVariants.{OtherTerm, ApartConfigs, ApartQuorums, EarlyConfig, EarlierTerm, CountedEarly, NoQuorum, NotAcked, NotCommitted, CampaignedTwice, NotElected, PassedTerm, MissingEntries, DropsMatching, ForeignEntries, TermNotReached, NotWritten, NotKept, LostAcked}
 use Rattle.raft_safety.proofs.lemmas.PrefixLemmas.{prefix_length}
 use Rattle.raft_safety.proofs.lemmas.TestLemmas.{leader_right, leader_from, prefix_right, entry_right, entry_itself}
 use Rattle.std.proofs.lemmas.Bool.{cases_Bool, and_from, and_right, cases_lt, leb-true, leb-false, lt-ltb, le-ltb, le-leb}
 use Rattle.std.proofs.lemmas.List.{take_all, take-append-le, length-append, length-take-le}
 use Rattle.raft_safety.specs.Log.{Entry}
 use Rattle.raft_safety.specs.Configs.{effective_config}
-use Rattle.raft_safety.specs.Events.{Event, GrantVote, Ack, log_after, term_after}
-use Rattle.raft_safety.specs.Trace.{AreExact, Tests, TraceEvent, Campaigned, Granted, Appended, Acked, Restarted, Wrote, Committed, Applied, events_in, has_campaigned, is_elected, is_allowed, are_allowed, same_entry, same_leader, hold_no_config, and_append, and_restart, has_kept, has_acked, has_voted, candidate_log_in, leader_log_in, is_config_committed, is_known_committed, is_quorum_of_log, is_prefix, common_prefix, unless, broken_rule, proposal_rule}
-use Rattle.raft_safety.specs.Inner.CheckerState.{up_to_date_by, write_rule, config_rule, config_in, no_config_in, append_rule, ack_rule, restart_rule, grant_rule, commit_rule, knows, has_committed, has_kept_by, has_acked_to, config_committed, common_len, kept_from, kept_after, at_most, IsAdded, HasPlace}
+use Rattle.raft_safety.specs.Events.{Event, GrantVote, LateVote, Ack, log_after, term_after}
+use Rattle.raft_safety.specs.Trace.{AreExact, Tests, TraceEvent, Campaigned, Granted, Appended, Acked, Restarted, Wrote, Committed, Applied, events_in, has_campaigned, is_elected, is_allowed, are_allowed, same_entry, same_leader, hold_no_config, and_vote, and_append, and_restart, has_kept, has_acked, has_voted, candidate_log_in, leader_log_in, is_config_committed, is_known_committed, is_quorum_of_log, is_prefix, common_prefix, unless, broken_rule, proposal_rule}
+use Rattle.raft_safety.specs.Inner.CheckerState.{write_rule, config_rule, config_in, no_config_in, append_rule, ack_rule, restart_rule, grant_rule, commit_rule, knows, has_committed, has_kept_by, has_acked_to, config_committed, common_len, kept_from, kept_after, at_most, IsAdded, HasPlace}
 use Rattle.raft_safety.specs.Checker.{HasSeen}
 use Rattle.raft_safety.specs.Inner.Seen.{SeesServer, kept_at, SeesServers, SeesLeader, SeesNoLeader, SeesLeaders, find_server, find_leader}
 use Rattle.raft_safety.proofs.lemmas.RuleLemmas.{first_none, rest_none, first_two}
@@ -24,8 +24,8 @@ use Rattle.raft_safety.specs.declared.rule.Rule.{Rule}
 use Rattle.raft_safety.specs.declared.checker.server.Server.{Server}
 use Rattle.raft_safety.specs.declared.checker.leader.Leader.{Leader}
 use Rattle.raft_safety.proofs.lemmas.CheckedLogLemmas.{same_sym, common_from, keeps_common, appended_is_old, appended_is_other, is_prefix_by_len}
-use Rattle.raft_safety.proofs.lemmas.CheckedServerLemmas.{has_kept_by_len, kept_all, sees_vote, sees_append, sees_ack, sees_restart, sees_new, see_set}
-use Rattle.raft_safety.proofs.lemmas.CheckedLeaderLemmas.{found_some, write_of_other, commit_of_other, apply_same, any_set_or, vote_no_ack, campaign_of_other, grant_to_other, found_at, none_found, stays, ack_to_other, ack_no_vote, append_same, restart_same, see_leader_set, see_leader_added}
+use Rattle.raft_safety.proofs.lemmas.CheckedServerLemmas.{has_kept_by_len, kept_all, sees_vote, sees_late_vote, sees_append, sees_ack, sees_restart, sees_new, see_set}
+use Rattle.raft_safety.proofs.lemmas.CheckedLeaderLemmas.{found_some, write_of_other, commit_of_other, apply_same, any_set_or, vote_no_ack, any_vote_no_ack, late_vote_same, campaign_of_other, grant_to_other, found_at, none_found, stays, ack_to_other, ack_no_vote, append_same, restart_same, see_leader_set, see_leader_added}
 
 -- an append that breaks no rule is in a term that the server has not passed, and keeps entries that
 -- the server has
@@ -126,7 +126,7 @@ module _ {T ID D : Type 0} (k : Tests T ID D (Option D)) (exact : AreExact k) wh
           let q : is.server.id ≡ r = exact.same_id is.server.id r b in
           let p : id ≡ r = sym is.is_new.is_id ∙ q in
           let none : events_in k es r ≡ [] = subst (λ (x : ID). events_in k es x ≡ []) p no_events in
-          rw (b, none) (sees_new k exact is.server is.is_new.term is.is_new.log is.is_new.durable is.is_new.kept)
+          rw (b, none) (sees_new k exact is.server is.is_new.term is.is_new.voted is.is_new.log is.is_new.durable is.is_new.kept)
       go None e (inr b) =
           rw b (subst (λ (o : Option (Server T ID D)). MatchOption o (events_in k es r ≡ [])
           (SeesServer k (events_in k es r))) e (sees r))
@@ -199,18 +199,18 @@ module _ {T ID D : Type 0} (k : Tests T ID D (Option D)) (exact : AreExact k) wh
       (leaders : List (Leader T ID D)) (i n : ℕ) (s new : Server T ID D)
       → position (λ (x : Server T ID D). k.same_id x.id id) servers ≡ Some i → s ≡ get_or servers i s
       → HasSeen k es servers leaders → restart_rule s n ≡ None
-      → new.id ≡ s.id → new.term ≡ s.term → new.log.items ≡ take n s.log.items
+      → new.id ≡ s.id → new.term ≡ s.term → new.voted ≡ s.voted → new.log.items ≡ take n s.log.items
       → new.durable ≡ min s.durable n → new.kept.items ≡ map (at_most n) s.kept.items
       → (broken_rule k (Restarted id n) es ≡ None)
       × HasSeen k (Restarted id n ∷ es) (set servers i new) leaders
-  restart_seen es id servers leaders i n s new at_i is seen free same_id same_term log dur kept = (
+  restart_seen es id servers leaders i n s new at_i is seen free same_id same_term vote log dur kept = (
     ok,
     record {
       allowed = more_allowed k (Restarted id n) es ok seen.allowed;
       see_servers =
           server_event (Restarted id n) es id servers leaders i s new (and_restart n (events_in k es id))
           events at_i is same_id seen
-          (sees_restart k exact (events_in k es id) s new n at_s within same_term log dur kept);
+          (sees_restart k exact (events_in k es id) s new n at_s within same_term vote log dur kept);
       see_leaders = λ u d. stays k exact es (Restarted id n ∷ es) u d (restart_same k exact es id u d n)
           (find_leader k leaders u d) (seen.see_leaders u d);
       see_commits = seen.see_commits;
@@ -268,20 +268,20 @@ module _ {T ID D : Type 0} (k : Tests T ID D (Option D)) (exact : AreExact k) wh
       → position (λ (x : Leader T ID D). same_leader k x.term x.id t c) leaders ≡ Some j
       → l ≡ get_or leaders j l
       → HasSeen k es servers leaders → append_rule (same_entry k) s l (k.rank t) n sent ≡ None
-      → new.id ≡ s.id → new.term ≡ max s.term (k.rank t) → new.log.items ≡ take n s.log.items ++ sent
+      → new.id ≡ s.id → new.term ≡ max s.term (k.rank t) → new.voted ≡ s.voted → new.log.items ≡ take n s.log.items ++ sent
       → new.durable ≡ min s.durable (n + common_len (same_entry k) (drop n s.log.items) sent)
       → new.kept.items ≡ map (at_most (n + common_len (same_entry k) (drop n s.log.items) sent))
       (kept_after s.kept.items s.term (length s.log.items) (k.rank t))
       → (broken_rule k (Appended id t c n sent) es ≡ None)
       × HasSeen k (Appended id t c n sent ∷ es) (set servers i new) leaders
-  append_seen es id t c n sent servers leaders i j s new l at_i is at_j is_l seen free same_id term log dur kept = (
+  append_seen es id t c n sent servers leaders i j s new l at_i is at_j is_l seen free same_id term vote log dur kept = (
     ok,
     record {
       allowed = more_allowed k (Appended id t c n sent) es ok seen.allowed;
       see_servers =
           server_event (Appended id t c n sent) es id servers leaders i s new
           (and_append t c n sent (events_in k es id)) events at_i is same_id seen
-          (sees_append k exact (events_in k es id) s new t c n sent at_s reached within term log dur kept);
+          (sees_append k exact (events_in k es id) s new t c n sent at_s reached within term vote log dur kept);
       see_leaders = λ u d. stays k exact es (Appended id t c n sent ∷ es) u d
           (append_same k exact es id t u c d n sent) (find_leader k leaders u d) (seen.see_leaders u d);
       see_commits = seen.see_commits;
@@ -381,14 +381,14 @@ module _ {T ID D : Type 0} (k : Tests T ID D (Option D)) (exact : AreExact k) wh
       → position (λ (x : Leader T ID D). same_leader k x.term x.id t c) leaders ≡ Some j
       → l ≡ get_or leaders j l
       → HasSeen k es servers leaders → ack_rule (same_entry k) s l (k.rank t) n ≡ None
-      → new.id ≡ s.id → new.term ≡ s.term → new.log.items ≡ s.log.items
+      → new.id ≡ s.id → new.term ≡ s.term → new.voted ≡ s.voted → new.log.items ≡ s.log.items
       → new.durable ≡ max n s.durable → new.kept.items ≡ s.kept.items
       → ((v : ID) (m : ℕ) → has_acked_to k.same_id lnew.acked.items v m
       ≡ (has_acked_to k.same_id l.acked.items v m || (k.same_id id v && nat_le m n)))
       → LeaderIs lnew l.term l.id l.start l.log.items l.voters.items l.elected l.committed
       → (broken_rule k (Acked id t c n) es ≡ None)
       × HasSeen k (Acked id t c n ∷ es) (set servers i new) (set leaders j lnew)
-  ack_seen es id t c n servers leaders i j s new l lnew at_i is at_j is_l seen free same_id term log dur kept acked same = (
+  ack_seen es id t c n servers leaders i j s new l lnew at_i is at_j is_l seen free same_id term vote log dur kept acked same = (
     ok,
     record {
       allowed = more_allowed k (Acked id t c n) es ok seen.allowed;
@@ -396,7 +396,7 @@ module _ {T ID D : Type 0} (k : Tests T ID D (Option D)) (exact : AreExact k) wh
           server_event (Acked id t c n) es id servers leaders i s new
           (Ack t c n ∷ events_in k es id) (λ r. at_id (λ (x : List (Event T ID D)). Ack t c n ∷ x) es id r)
           at_i is same_id seen
-          (sees_ack k exact (events_in k es id) s new t c n at_s term log dur kept);
+          (sees_ack k exact (events_in k es id) s new t c n at_s term vote log dur kept);
       see_leaders =
           see_leader_set k exact es (Acked id t c n ∷ es) leaders j lnew t c at_j place.1 seen.see_leaders
           (λ u d apart. ack_to_other k exact es id t u c d n apart)
@@ -456,7 +456,7 @@ module _ {T ID D : Type 0} (k : Tests T ID D (Option D)) (exact : AreExact k) wh
       → SeesLeader k es t c l
       → broken_rule k (Granted id t c) es ≡ grant_rule k.rank k.same_id s l id (k.rank t) c
   grant_right es id t c s l sees leads =
-      rw (leads.campaigned, sees.term, leads.candidate_log, sees.log) refl
+      rw (leads.campaigned, sees.term, sees.voted, leads.candidate_log, sees.log) refl
 
   same_id_turn : (a b : ID) → k.same_id a b ≡ k.same_id b a
   same_id_turn a b = same_sym k.same_id exact.same_id exact.id_itself a b
@@ -468,7 +468,7 @@ module _ {T ID D : Type 0} (k : Tests T ID D (Option D)) (exact : AreExact k) wh
       → position (λ (x : Leader T ID D). same_leader k x.term x.id t c) leaders ≡ Some j
       → l ≡ get_or leaders j l
       → HasSeen k es servers leaders → grant_rule k.rank k.same_id s l id (k.rank t) c ≡ None
-      → new.id ≡ s.id → new.term ≡ max s.term (k.rank t) → new.log.items ≡ s.log.items
+      → s.term < k.rank t → new.id ≡ s.id → new.term ≡ max s.term (k.rank t) → new.voted ≡ k.rank t → new.log.items ≡ s.log.items
       → new.durable ≡ s.durable
       → new.kept.items ≡ kept_after s.kept.items s.term (length s.log.items) (k.rank t)
       → ((v : ID) → is_member k.same_id lnew.voters.items v
@@ -480,16 +480,17 @@ module _ {T ID D : Type 0} (k : Tests T ID D (Option D)) (exact : AreExact k) wh
       → LeaderIs lnew l.term l.id l.start l.log.items lnew.voters.items lnew.elected l.committed
       → (broken_rule k (Granted id t c) es ≡ None)
       × HasSeen k (Granted id t c ∷ es) (set servers i new) (set leaders j lnew)
-  grant_seen es id t c servers leaders i j s new l lnew at_i is at_j is_l seen free same_id term log dur kept voted distinct elected acked
+  grant_seen es id t c servers leaders i j s new l lnew at_i is at_j is_l seen free above same_id term vote log dur kept voted distinct elected acked
       same = (
         ok,
         record {
           allowed = more_allowed k (Granted id t c) es ok seen.allowed;
           see_servers =
               server_event (Granted id t c) es id servers leaders i s new
-              (GrantVote t c ∷ events_in k es id) (λ r. at_id (λ (x : List (Event T ID D)). GrantVote t c ∷ x) es id r)
+              (and_vote k t c (events_in k es id)) (λ r. at_id (λ (x : List (Event T ID D)). and_vote k t c x) es id r)
               at_i is same_id seen
-              (sees_vote k exact (events_in k es id) s new t c at_s above term log dur kept);
+              (subst (λ (b : Bool). SeesServer k ((if b then GrantVote t c else LateVote t c) ∷ events_in k es id) new)
+              (sym in_time) (sees_vote k exact (events_in k es id) s new t c at_s above term vote log dur kept));
           see_leaders =
               see_leader_set k exact es (Granted id t c ∷ es) leaders j lnew t c at_j place.1 seen.see_leaders
               (λ u d apart. grant_to_other k exact es id t u c d apart)
@@ -504,7 +505,7 @@ module _ {T ID D : Type 0} (k : Tests T ID D (Option D)) (exact : AreExact k) wh
                 elected =
                     (λ q. (votes c ∙ own) q && is_quorum_of_log k (at_l.candidate_log q) (λ v. votes v q))
                     ∙ sym elected;
-                acked = λ v m. vote_no_ack k exact (k.same_id id v) t t c c m (events_in k es v) ∙ at_l.acked v m
+                acked = λ v m. any_vote_no_ack k exact (k.same_id id v) t t c c m (events_in k es v) ∙ at_l.acked v m
                     ∙ sym (ap (λ x. has_acked_to k.same_id x v m) acked);
                 committed = λ x. at_l.committed x ∙ sym (ap (λ y. config_committed (hold_no_config k) y x) same.committed);
                 within = rw (same.committed, same.log) at_l.within;
@@ -523,21 +524,19 @@ module _ {T ID D : Type 0} (k : Tests T ID D (Option D)) (exact : AreExact k) wh
       ok : broken_rule k (Granted id t c) es ≡ None
       ok = grant_right es id t c s l at_s at_l ∙ free
 
-      above : s.term < k.rank t
-      above =
-          ltb-true s.term (k.rank t)
-          (first_none (nat_lt s.term (k.rank t)) PassedTerm
-          (unless (not (k.same_id c id)) OwnCandidate
-          (unless (up_to_date_by k.rank (take l.start l.log.items) s.log.items) CandidateBehind None)) free)
+      in_time : nat_lt (term_after k.rank (events_in k es id)) (k.rank t) ≡ true
+      in_time = rw at_s.term (lt-ltb s.term (k.rank t) above)
 
       place : (j < length leaders) × (same_leader k lnew.term lnew.id t c ≡ true)
       place = leader_place leaders t c j l lnew at_j is_l same.term same.id
 
       counted : (v : ID) (b : Bool) → k.same_id id v ≡ b
-          → has_voted k t c (if b then GrantVote t c ∷ events_in k es v else events_in k es v)
+          → has_voted k t c (if b then and_vote k t c (events_in k es v) else events_in k es v)
           ≡ (is_member k.same_id l.voters.items v || b)
       counted v true e =
-          rw (leader_from k exact t t c c refl refl) (or_turn true (is_member k.same_id l.voters.items v))
+          let here : nat_lt (term_after k.rank (events_in k es v)) (k.rank t) ≡ true =
+          rw (exact.same_id id v e) at in_time in
+          rw here (rw (leader_from k exact t t c c refl refl) (or_turn true (is_member k.same_id l.voters.items v)))
       counted v false e = at_l.voted v ∙ sym (or_no (is_member k.same_id l.voters.items v))
 
       votes : (v : ID) → has_voted k t c (events_in k (Granted id t c ∷ es) v)
@@ -554,6 +553,46 @@ module _ {T ID D : Type 0} (k : Tests T ID D (Option D)) (exact : AreExact k) wh
       same_knows r p =
           (λ q. nat_le (k.rank (same.term q)) r && has_committed (same_entry k) (same.log q) (same.committed q) p)
           ∙ ap (knows k.rank (same_entry k) r p) is_l
+
+  -- a vote in a term in which the server has taken entries changes no leader
+  pub late_vote_seen : (es : List (TraceEvent T ID D)) (id : ID) (t : T) (c : ID)
+      (servers : List (Server T ID D)) (leaders : List (Leader T ID D)) (i j : ℕ)
+      (s new : Server T ID D) (l : Leader T ID D)
+      → position (λ (x : Server T ID D). k.same_id x.id id) servers ≡ Some i → s ≡ get_or servers i s
+      → position (λ (x : Leader T ID D). same_leader k x.term x.id t c) leaders ≡ Some j
+      → l ≡ get_or leaders j l
+      → HasSeen k es servers leaders → grant_rule k.rank k.same_id s l id (k.rank t) c ≡ None
+      → k.rank t ≤ s.term → new.id ≡ s.id → new.term ≡ s.term → new.voted ≡ k.rank t
+      → new.log.items ≡ s.log.items → new.durable ≡ s.durable → new.kept.items ≡ s.kept.items
+      → (broken_rule k (Granted id t c) es ≡ None)
+      × HasSeen k (Granted id t c ∷ es) (set servers i new) leaders
+  late_vote_seen es id t c servers leaders i j s new l at_i is at_j is_l seen free reached same_id term vote log dur kept = (
+    ok,
+    record {
+      allowed = more_allowed k (Granted id t c) es ok seen.allowed;
+      see_servers =
+          server_event (Granted id t c) es id servers leaders i s new
+          (and_vote k t c (events_in k es id)) (λ r. at_id (λ (x : List (Event T ID D)). and_vote k t c x) es id r)
+          at_i is same_id seen
+          (subst (λ (b : Bool). SeesServer k ((if b then GrantVote t c else LateVote t c) ∷ events_in k es id) new)
+          (sym late) (sees_late_vote k exact (events_in k es id) s new t c at_s term vote log dur kept));
+      see_leaders = λ u d. stays k exact es (Granted id t c ∷ es) u d
+          (late_vote_same k exact es id t u c d late) (find_leader k leaders u d) (seen.see_leaders u d);
+      see_commits = seen.see_commits;
+    },
+  )
+    where
+      at_s : SeesServer k (events_in k es id) s
+      at_s = rw is (server_seen es servers id i s seen.see_servers at_i)
+
+      at_l : SeesLeader k es t c l
+      at_l = rw is_l (leader_seen es leaders t c j l seen.see_leaders at_j)
+
+      ok : broken_rule k (Granted id t c) es ≡ None
+      ok = grant_right es id t c s l at_s at_l ∙ free
+
+      late : nat_lt (term_after k.rank (events_in k es id)) (k.rank t) ≡ false
+      late = rw at_s.term (le-ltb s.term (k.rank t) reached)
 
   -- ---- campaigns
 
@@ -572,7 +611,7 @@ module _ {T ID D : Type 0} (k : Tests T ID D (Option D)) (exact : AreExact k) wh
       → position (λ (x : Server T ID D). k.same_id x.id c) servers ≡ Some i → s ≡ get_or servers i s
       → position (λ (x : Leader T ID D). same_leader k x.term x.id t c) leaders ≡ None
       → HasSeen k es servers leaders → s.term < k.rank t
-      → new.id ≡ s.id → new.term ≡ max s.term (k.rank t) → new.log.items ≡ s.log.items
+      → new.id ≡ s.id → new.term ≡ max s.term (k.rank t) → new.voted ≡ k.rank t → new.log.items ≡ s.log.items
       → new.durable ≡ s.durable
       → new.kept.items ≡ kept_after s.kept.items s.term (length s.log.items) (k.rank t)
       → lnew.elected ≡ k.quorum_of (effective_config k.config_of k.initial s.log.items)
@@ -581,7 +620,7 @@ module _ {T ID D : Type 0} (k : Tests T ID D (Option D)) (exact : AreExact k) wh
       → LeaderIs lnew t c (length s.log.items) s.log.items (c ∷ []) lnew.elected None
       → (broken_rule k (Campaigned c t) es ≡ None)
       × HasSeen k (Campaigned c t ∷ es) (set servers i new) (lnew ∷ leaders)
-  campaign_seen es t c servers leaders i s new lnew at_i is absent seen above same_id term log dur kept elected acked same = (
+  campaign_seen es t c servers leaders i s new lnew at_i is absent seen above same_id term vote log dur kept elected acked same = (
     ok,
     record {
       allowed = more_allowed k (Campaigned c t) es ok seen.allowed;
@@ -589,7 +628,7 @@ module _ {T ID D : Type 0} (k : Tests T ID D (Option D)) (exact : AreExact k) wh
           server_event (Campaigned c t) es c servers leaders i s new
           (GrantVote t c ∷ events_in k es c) (λ r. at_id (λ (x : List (Event T ID D)). GrantVote t c ∷ x) es c r)
           at_i is same_id seen
-          (sees_vote k exact (events_in k es c) s new t c at_s above term log dur kept);
+          (sees_vote k exact (events_in k es c) s new t c at_s above term vote log dur kept);
       see_leaders =
           see_leader_added k exact es (Campaigned c t ∷ es) leaders lnew t c is_key seen.see_leaders
           (λ u d apart. campaign_of_other k exact es t u c d apart)

@@ -77,6 +77,7 @@ use Rattle.raft_safety.proofs.lemmas.CheckerLemmas.{
   append_seen,
   ack_seen,
   grant_seen,
+  late_vote_seen,
   campaign_seen,
 }
 
@@ -104,15 +105,16 @@ module _ {T ID D : Type 0} (k : Tests T ID D (Option D)) (exact : AreExact k) wh
   pub same_server : (es : List (TraceEvent T ID D)) (id : ID) (old servers : List (Server T ID D))
       (leaders : List (Leader T ID D)) (i : ℕ) (s new : Server T ID D)
       → HasPlace (λ (x : Server T ID D). k.same_id x.id id) id old servers i → s ≡ get_or servers i s
-      → HasSeen k es old leaders → new.id ≡ s.id → new.term ≡ s.term → new.log.items ≡ s.log.items
+      → HasSeen k es old leaders → new.id ≡ s.id → new.term ≡ s.term → new.voted ≡ s.voted → new.log.items ≡ s.log.items
       → new.durable ≡ s.durable → new.kept.items ≡ s.kept.items
       → HasSeen k es (set servers i new) leaders
-  same_server es id old servers leaders i s new place is seen same_id term log dur kept = record {
+  same_server es id old servers leaders i s new place is seen same_id term vote log dur kept = record {
     allowed = now.allowed;
     see_servers =
         see_set k exact es es servers i new id place.0 is_id now.see_servers (λ r apart. refl)
         (record {
           term = at_s.term ∙ sym term;
+          voted = at_s.voted ∙ sym vote;
           log = at_s.log ∙ sym log;
           durable = at_s.durable ∙ sym dur;
           kept = λ r h. at_s.kept r (rw (← term) h) ∙ ap (λ ks. kept_from 0 ks r) (sym kept);
@@ -188,7 +190,7 @@ module _ {T ID D : Type 0} (k : Tests T ID D (Option D)) (exact : AreExact k) wh
       → HasPlace (λ (x : Server T ID D). k.same_id x.id id) id old servers i
       → s0 ≡ get_or servers i s0 → s ≡ get_or servers i s
       → HasSeen k es old leaders → restart_rule s0 n ≡ None
-      → new.id ≡ s.id → new.term ≡ s.term → new.log.items ≡ take n s.log.items
+      → new.id ≡ s.id → new.term ≡ s.term → new.voted ≡ s.voted → new.log.items ≡ take n s.log.items
       → new.durable ≡ min s.durable n → new.kept.items ≡ map (at_most n) s.kept.items
       → (broken_rule k (Restarted id n) es ≡ None)
       × HasSeen k (Restarted id n ∷ es) (set servers i new) leaders
@@ -207,7 +209,7 @@ module _ {T ID D : Type 0} (k : Tests T ID D (Option D)) (exact : AreExact k) wh
       → position (λ (x : Leader T ID D). same_leader k x.term x.id t c) leaders ≡ Some j
       → l ≡ get_or leaders j l
       → HasSeen k es old leaders → append_rule (same_entry k) s0 l (k.rank t) n sent ≡ None
-      → new.id ≡ s.id → new.term ≡ max s.term (k.rank t) → new.log.items ≡ take n s.log.items ++ sent
+      → new.id ≡ s.id → new.term ≡ max s.term (k.rank t) → new.voted ≡ s.voted → new.log.items ≡ take n s.log.items ++ sent
       → new.durable ≡ min s.durable (n + common_len (same_entry k) (drop n s.log.items) sent)
       → new.kept.items ≡ map (at_most (n + common_len (same_entry k) (drop n s.log.items) sent))
       (kept_after s.kept.items s.term (length s.log.items) (k.rank t))
@@ -228,7 +230,7 @@ module _ {T ID D : Type 0} (k : Tests T ID D (Option D)) (exact : AreExact k) wh
       → position (λ (x : Leader T ID D). same_leader k x.term x.id t c) leaders ≡ Some j
       → l0 ≡ get_or leaders j l0 → l ≡ get_or leaders j l
       → HasSeen k es old leaders → ack_rule (same_entry k) s0 l0 (k.rank t) n ≡ None
-      → new.id ≡ s.id → new.term ≡ s.term → new.log.items ≡ s.log.items
+      → new.id ≡ s.id → new.term ≡ s.term → new.voted ≡ s.voted → new.log.items ≡ s.log.items
       → new.durable ≡ max n s.durable → new.kept.items ≡ s.kept.items
       → ((v : ID) (m : ℕ) → has_acked_to k.same_id lnew.acked.items v m
       ≡ (has_acked_to k.same_id l.acked.items v m || (k.same_id id v && nat_le m n)))
@@ -253,7 +255,7 @@ module _ {T ID D : Type 0} (k : Tests T ID D (Option D)) (exact : AreExact k) wh
       → position (λ (x : Leader T ID D). same_leader k x.term x.id t c) leaders ≡ Some j
       → l0 ≡ get_or leaders j l0 → l ≡ get_or leaders j l
       → HasSeen k es old leaders → grant_rule k.rank k.same_id s0 l0 id (k.rank t) c ≡ None
-      → new.id ≡ s.id → new.term ≡ max s.term (k.rank t) → new.log.items ≡ s.log.items
+      → s.term < k.rank t → new.id ≡ s.id → new.term ≡ max s.term (k.rank t) → new.voted ≡ k.rank t → new.log.items ≡ s.log.items
       → new.durable ≡ s.durable
       → new.kept.items ≡ kept_after s.kept.items s.term (length s.log.items) (k.rank t)
       → ((v : ID) → is_member k.same_id lnew.voters.items v
@@ -266,7 +268,7 @@ module _ {T ID D : Type 0} (k : Tests T ID D (Option D)) (exact : AreExact k) wh
       → LeaderIs lnew l.term l.id l.start l.log.items lnew.voters.items lnew.elected l.committed
       → (broken_rule k (Granted id t c) es ≡ None)
       × HasSeen k (Granted id t c ∷ es) (set servers i new) (set leaders j lnew)
-  grant_done es id t c old servers leaders i j s0 s new l0 l lnew place is0 is at_j is_l0 is_l seen free same_id term log dur kept voted
+  grant_done es id t c old servers leaders i j s0 s new l0 l lnew place is0 is at_j is_l0 is_l seen free above same_id term vote log dur kept voted
       distinct elected =
       let one : s0 ≡ s =
       same_item servers i s0 s (place_within (λ (x : Server T ID D). k.same_id x.id id) servers i s place.0) is0 is in
@@ -277,7 +279,27 @@ module _ {T ID D : Type 0} (k : Tests T ID D (Option D)) (exact : AreExact k) wh
       (see_place k exact es id old servers i leaders place seen)
       (subst (λ (x : Server T ID D). grant_rule k.rank k.same_id x l id (k.rank t) c ≡ None) one
       (subst (λ (x : Leader T ID D). grant_rule k.rank k.same_id s0 x id (k.rank t) c ≡ None) other free))
-      same_id term log dur kept voted (distinct at_l.distinct) (elected at_l.distinct)
+      above same_id term vote log dur kept voted (distinct at_l.distinct) (elected at_l.distinct)
+
+  pub late_vote_done : (es : List (TraceEvent T ID D)) (id : ID) (t : T) (c : ID)
+      (old servers : List (Server T ID D)) (leaders : List (Leader T ID D)) (i j : ℕ)
+      (s0 s new : Server T ID D) (l : Leader T ID D)
+      → HasPlace (λ (x : Server T ID D). k.same_id x.id id) id old servers i
+      → s0 ≡ get_or servers i s0 → s ≡ get_or servers i s
+      → position (λ (x : Leader T ID D). same_leader k x.term x.id t c) leaders ≡ Some j
+      → l ≡ get_or leaders j l
+      → HasSeen k es old leaders → grant_rule k.rank k.same_id s0 l id (k.rank t) c ≡ None
+      → k.rank t ≤ s.term → new.id ≡ s.id → new.term ≡ s.term → new.voted ≡ k.rank t
+      → new.log.items ≡ s.log.items → new.durable ≡ s.durable → new.kept.items ≡ s.kept.items
+      → (broken_rule k (Granted id t c) es ≡ None)
+      × HasSeen k (Granted id t c ∷ es) (set servers i new) leaders
+  late_vote_done es id t c old servers leaders i j s0 s new l place is0 is at_j is_l seen free reached =
+      let one : s0 ≡ s =
+      same_item servers i s0 s (place_within (λ (x : Server T ID D). k.same_id x.id id) servers i s place.0) is0 is in
+      late_vote_seen k exact es id t c servers leaders i j s new l place.0 is at_j is_l
+      (see_place k exact es id old servers i leaders place seen)
+      (subst (λ (x : Server T ID D). grant_rule k.rank k.same_id x l id (k.rank t) c ≡ None) one free)
+      reached
 
   pub campaign_done : (es : List (TraceEvent T ID D)) (t : T) (c : ID)
       (old servers : List (Server T ID D)) (leaders : List (Leader T ID D)) (i : ℕ)
@@ -286,7 +308,7 @@ module _ {T ID D : Type 0} (k : Tests T ID D (Option D)) (exact : AreExact k) wh
       → s0 ≡ get_or servers i s0 → s ≡ get_or servers i s
       → position (λ (x : Leader T ID D). same_leader k x.term x.id t c) leaders ≡ None
       → HasSeen k es old leaders → s0.term < k.rank t
-      → new.id ≡ s.id → new.term ≡ max s.term (k.rank t) → new.log.items ≡ s.log.items
+      → new.id ≡ s.id → new.term ≡ max s.term (k.rank t) → new.voted ≡ k.rank t → new.log.items ≡ s.log.items
       → new.durable ≡ s.durable
       → new.kept.items ≡ kept_after s.kept.items s.term (length s.log.items) (k.rank t)
       → lnew.elected ≡ k.quorum_of (effective_config k.config_of k.initial s.log.items)

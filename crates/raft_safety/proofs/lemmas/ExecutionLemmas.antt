@@ -4,7 +4,7 @@ use Rattle.std.proofs.Common.{refl, sym, ap, ◌∙◌, inl, inr, arith, append_
 use Rattle.std.proofs.lemmas.Bool.{cases_lt}
 use Rattle.std.proofs.lemmas.List.{take-append-le, length-append}
 use Rattle.raft_safety.specs.Log.{AllOfTerm, Entry, IsPrefix}
-use Rattle.raft_safety.specs.Events.{Ack, Append, Event, GrantVote, History, Restart, log_after, term_after}
+use Rattle.raft_safety.specs.Events.{Ack, Append, Event, GrantVote, LateVote, History, Restart, log_after, term_after}
 use Rattle.raft_safety.specs.Facts.{HasAcked, HasVoted, IsAppendEntries, IsCommitted, IsElected}
 use Rattle.raft_safety.specs.Rules.{AppendsOwnTerm, EventsFollowRules, FollowsRaft, MayAck, MayAppend}
 use Rattle.raft_safety.specs.Safety.{ElectionSafety, IsSafe}
@@ -27,6 +27,7 @@ module _ {T ID D : Type 0} where
   voted_more : (t : T) (c : ID) (d : Event T ID D) (ds : List (Event T ID D)) → HasVoted t c ds
       → HasVoted t c (d ∷ ds)
   voted_more t c (GrantVote u e) ds v = inr v
+  voted_more t c (LateVote u e) ds v = v
   voted_more t c (Append u e log) ds v = v
   voted_more t c (Ack u e n) ds v = v
   voted_more t c (Restart log) ds v = v
@@ -34,6 +35,7 @@ module _ {T ID D : Type 0} where
   acked_more : (t : T) (c : ID) (n : ℕ) (d : Event T ID D) (ds : List (Event T ID D))
       → HasAcked t c n ds → HasAcked t c n (d ∷ ds)
   acked_more t c n (GrantVote u e) ds a = a
+  acked_more t c n (LateVote u e) ds a = a
   acked_more t c n (Append u e log) ds a = a
   acked_more t c n (Ack u e m) ds a = inr a
   acked_more t c n (Restart log) ds a = a
@@ -231,6 +233,7 @@ module _ {T ID D M : Type 0} (rank : T → ℕ) (config_of : D → Option M) (in
               },
               allowed_stays s ds ok.1 (λ u d v. among u d (inr v)),
             )
+        allowed_stays s (LateVote t c ∷ ds) ok among = (ok.0, allowed_stays s ds ok.1 among)
         allowed_stays s (Append t c log ∷ ds) ok among =
             (may_append s ds ok.1 t c log ok.0, allowed_stays s ds ok.1 among)
         allowed_stays s (Ack t c n ∷ ds) ok among =
@@ -240,6 +243,7 @@ module _ {T ID D M : Type 0} (rank : T → ℕ) (config_of : D → Option M) (in
         one_more : (s : ID) (d : Event T ID D) → MayDo rank config_of initial quorum_of old new s d
             → EventsFollowRules rank Q new s (old.events s) → EventsFollowRules rank Q new s (d ∷ old.events s)
         one_more s (GrantVote t c) may ok = (may, ok)
+        one_more s (LateVote t c) may ok = (may, ok)
         one_more s (Append t c log) may ok =
             (may_append s (old.events s) (law.servers s) t c log may, ok)
         one_more s (Ack t c n) may ok = (may_ack (old.events s) t c n may, ok)
@@ -419,6 +423,7 @@ module _ {T ID D M : Type 0} (rank : T → ℕ) (config_of : D → Option M) (in
     rules_before : (last : History T ID D) (s : ID) (e : Event T ID D) (es : List (Event T ID D))
         → EventsFollowRules rank Q last s (e ∷ es) → EventsFollowRules rank Q last s es
     rules_before last s (GrantVote t c) es ok = ok.1
+    rules_before last s (LateVote t c) es ok = ok.1
     rules_before last s (Append t c log) es ok = ok.1
     rules_before last s (Ack t c n) es ok = ok.1
     rules_before last s (Restart log) es ok = ok.1

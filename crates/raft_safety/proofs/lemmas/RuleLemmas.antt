@@ -3,7 +3,7 @@ use Rattle.std.specs.Prelude.{◌≡◌, ◌+◌, ℕ, Bool, true, false, not, �
 use Rattle.std.proofs.Common.{refl, ap, ◌∙◌}
 use Rattle.raft_safety.specs.declared.rule.Rule.TheVariants.{NoCampaign, OwnCandidate, CandidateBehind, OtherTerm, ApartConfigs, ApartQuorums, EarlyConfig, EarlierTerm, CountedEarly, NoQuorum, NotAcked, NotCommitted, CampaignedTwice, NotElected, PassedTerm, MissingEntries, DropsMatching, ForeignEntries, TermNotReached, NotWritten, NotKept, LostAcked}
 use Rattle.raft_safety.specs.Configs.{effective_config}
-use Rattle.raft_safety.specs.Trace.{Tests, TraceEvent, Campaigned, Granted, Appended, Acked, Restarted, Wrote, Committed, Applied, durable, term_in, log_in, is_up_to_date, events_in, has_campaigned, is_elected, is_allowed, has_kept, has_acked, candidate_log_in, leader_log_in, is_config_committed, is_known_committed, is_quorum_of_log, is_prefix, common_prefix, unless, proposal_rule}
+use Rattle.raft_safety.specs.Trace.{Tests, TraceEvent, Campaigned, Granted, Appended, Acked, Restarted, Wrote, Committed, Applied, durable, term_in, voted_in, log_in, is_up_to_date, events_in, has_campaigned, is_elected, is_allowed, has_kept, has_acked, candidate_log_in, leader_log_in, is_config_committed, is_known_committed, is_quorum_of_log, is_prefix, common_prefix, unless, proposal_rule}
 use Rattle.raft_safety.specs.declared.rule.Rule.{Rule}
 
 -- ---- tests in a row
@@ -86,7 +86,8 @@ module _ {T ID D M : Type 0} (k : Tests T ID D M) where
   passes (Campaigned c t) es =
       nat_lt (term_in k es c) (k.rank t) && not (has_campaigned k t c es)
   passes (Granted s t c) es =
-      nat_lt (term_in k es s) (k.rank t) && (has_campaigned k t c es && (not (k.same_id c s)
+      (nat_le (term_in k es s) (k.rank t) && nat_lt (voted_in k es s) (k.rank t))
+      && (has_campaigned k t c es && (not (k.same_id c s)
       && is_up_to_date k (candidate_log_in k es t c) (log_in k es s)))
   passes (Appended s t c n sent) es =
       nat_le (term_in k es s) (k.rank t) && (is_elected k es t c
@@ -124,7 +125,7 @@ module _ {T ID D M : Type 0} (k : Tests T ID D M) where
       rules_2 new term CampaignedTwice PassedTerm ∙ and_turn new term
   allowed_by_rules (Granted s t c) es =
       let campaigned : Bool = has_campaigned k t c es in
-      let term : Bool = nat_lt (term_in k es s) (k.rank t) in
+      let term : Bool = nat_le (term_in k es s) (k.rank t) && nat_lt (voted_in k es s) (k.rank t) in
       let other : Bool = not (k.same_id c s) in
       let log : Bool = is_up_to_date k (candidate_log_in k es t c) (log_in k es s) in
       rules_4 campaigned term other log NoCampaign PassedTerm OwnCandidate CandidateBehind

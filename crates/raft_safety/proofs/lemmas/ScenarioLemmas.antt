@@ -9,37 +9,7 @@ use Rattle.raft_safety.specs.Configs.{is_quorum}
 use Rattle.raft_safety.specs.Facts.{IsCommitted}
 use Rattle.raft_safety.specs.Log.{Entry, IsPrefix}
 use Rattle.raft_safety.specs.Trace.{AreExact, TermsHaveRanks, are_allowed, history}
-use Rattle.raft_safety.specs.Scenarios.{
-  AreDisturbances,
-  AreLeaderIds,
-  AreMemberChanges,
-  AreRefusedByRule,
-  IsAllowedTrace,
-  IsFigure8,
-  Row,
-  behind,
-  foreign_ack,
-  by_leader_id,
-  configs_of,
-  entry,
-  figure_8_c,
-  figure_8_d,
-  figure_8_e,
-  five,
-  heard,
-  joint_on_old,
-  late_flush,
-  learner_promoted,
-  led,
-  loss_and_return,
-  lost_flush,
-  members_changed,
-  noise,
-  snapshot_on_empty_log,
-  starting_from,
-  three,
-  two_of_one_term,
-}
+use Rattle.raft_safety.specs.Scenarios.{AreDisturbances, AreLeaderIds, AreMemberChanges, AreRefusedByRule, IsAllowedTrace, IsFigure8, Row, behind, foreign_ack, by_leader_id, configs_of, entry, figure_8_c, figure_8_d, figure_8_e, five, voted_late, joint_on_old, late_flush, learner_promoted, led, loss_and_return, lost_flush, members_changed, noise, snapshot_on_empty_log, starting_from, three, two_of_one_term}
 use Rattle.raft_safety.proofs.lemmas.PrefixLemmas.{prefix_itself, prefix_length}
 use Rattle.raft_safety.proofs.lemmas.JointLemmas.{coherent_intersect}
 use Rattle.raft_safety.proofs.lemmas.TraceLemmas.{committed_right, elected_right, trace_is_safe}
@@ -173,11 +143,12 @@ pub refused : AreRefusedByRule
 refused = record {
   led_allowed = allowed three.initial led refl;
   behind_allowed = allowed three.initial behind refl;
-  heard_allowed = allowed five.initial heard refl;
+  late_vote_allowed = allowed five.initial voted_late refl;
+  late_vote_not_counted = refl;
   foreign_ack_allowed = allowed three.initial foreign_ack refl;
   joint_on_old_allowed = allowed three.initial joint_on_old refl;
   second_vote = refl;
-  vote_after_leader = refl;
+  second_late_vote = refl;
   candidate_behind = refl;
   older_last_term = refl;
   not_elected = refl;

@@ -5,19 +5,10 @@ use Rattle.std.proofs.Common.{refl, sym, ap, ◌∙◌, inl, inr, arith}
 use Rattle.std.proofs.lemmas.List.{length-take-le}
 use Rattle.std.proofs.lemmas.Bool.{cases_lt}
 use Rattle.raft_safety.specs.Log.{Entry, IsPrefix, IsUpToDate, last_term}
-use Rattle.raft_safety.specs.Events.{Ack, Append, Event, GrantVote, HasHad, HasKept, History, IsDurable, Restart, log_after, term_after}
+use Rattle.raft_safety.specs.Events.{Ack, Append, Event, GrantVote, LateVote, HasHad, HasKept, History, IsDurable, Restart, log_after, term_after}
 use Rattle.raft_safety.specs.Facts.{HasAcked, HasVoted, IsCommitted, IsElected}
 use Rattle.raft_safety.specs.Rules.{EventsFollowRules, FollowsRaft, MayGrantVote}
-use Rattle.raft_safety.proofs.lemmas.PrefixLemmas.{
-  prefix_itself,
-  prefix_trans,
-  prefix_take,
-  prefix_length,
-  prefix_within,
-  take_within,
-  empty_last,
-  last_added,
-}
+use Rattle.raft_safety.proofs.lemmas.PrefixLemmas.{prefix_itself, prefix_trans, prefix_take, prefix_length, prefix_within, take_within, empty_last, last_added}
 
 module _ {T ID D : Type 0} where
   -- the log of a server is one that it has had
@@ -37,6 +28,7 @@ module _ {T ID D : Type 0} where
       → IsPrefix p (log_after ds)
   durable_now [] p x = x
   durable_now (GrantVote t c ∷ ds) p x = durable_now ds p x
+  durable_now (LateVote t c ∷ ds) p x = durable_now ds p x
   durable_now (Append t c log ∷ ds) p x = x.0
   durable_now (Ack t c n ∷ ds) p (inl x) = x.0
   durable_now (Ack t c n ∷ ds) p (inr x) = durable_now ds p x
@@ -62,6 +54,7 @@ module _ {T ID D : Type 0} (rank : T → ℕ) (quorum : List (Entry T D) → (ID
   before_vote s t c (GrantVote u d ∷ ds) ok (inl is) =
       record { ds = ds; allowed = ok.1; may = rw (is.0, is.1) at ok.0 }
   before_vote s t c (GrantVote u d ∷ ds) ok (inr v) = before_vote s t c ds ok.1 v
+  before_vote s t c (LateVote u d ∷ ds) ok v = before_vote s t c ds ok.1 v
   before_vote s t c (Append u d log ∷ ds) ok v = before_vote s t c ds ok.1 v
   before_vote s t c (Ack u d n ∷ ds) ok v = before_vote s t c ds ok.1 v
   before_vote s t c (Restart log ∷ ds) ok v = before_vote s t c ds ok.1 v
@@ -73,6 +66,7 @@ module _ {T ID D : Type 0} (rank : T → ℕ) (quorum : List (Entry T D) → (ID
   voted_term s t c (GrantVote u d ∷ ds) ok (inl is) = omega (arith, ap rank is.0)
   voted_term s t c (GrantVote u d ∷ ds) ok (inr v) =
       omega (arith, voted_term s t c ds ok.1 v, ok.0.term)
+  voted_term s t c (LateVote u d ∷ ds) ok v = voted_term s t c ds ok.1 v
   voted_term s t c (Append u d log ∷ ds) ok v =
       omega (arith, voted_term s t c ds ok.1 v, ok.0.term)
   voted_term s t c (Ack u d n ∷ ds) ok v = voted_term s t c ds ok.1 v
@@ -83,6 +77,7 @@ module _ {T ID D : Type 0} (rank : T → ℕ) (quorum : List (Entry T D) → (ID
   acked_term s t c n [] ok a = absurd a
   acked_term s t c n (GrantVote u d ∷ ds) ok a =
       omega (arith, acked_term s t c n ds ok.1 a, ok.0.term)
+  acked_term s t c n (LateVote u d ∷ ds) ok a = acked_term s t c n ds ok.1 a
   acked_term s t c n (Append u d log ∷ ds) ok a =
       omega (arith, acked_term s t c n ds ok.1 a, ok.0.term)
   acked_term s t c n (Ack u d m ∷ ds) ok (inl is) = omega (arith, ap rank is.0, ok.0.reached)
@@ -99,6 +94,7 @@ module _ {T ID D : Type 0} (rank : T → ℕ) (quorum : List (Entry T D) → (ID
   voted_once s t c d (GrantVote u e ∷ ds) ok (inr v) (inl w) =
       absurd (omega (arith, voted_term s t c ds ok.1 v, ok.0.term, ap rank w.0))
   voted_once s t c d (GrantVote u e ∷ ds) ok (inr v) (inr w) = voted_once s t c d ds ok.1 v w
+  voted_once s t c d (LateVote u e ∷ ds) ok v w = voted_once s t c d ds ok.1 v w
   voted_once s t c d (Append u e log ∷ ds) ok v w = voted_once s t c d ds ok.1 v w
   voted_once s t c d (Ack u e n ∷ ds) ok v w = voted_once s t c d ds ok.1 v w
   voted_once s t c d (Restart log ∷ ds) ok v w = voted_once s t c d ds ok.1 v w
@@ -170,6 +166,9 @@ module _ {T ID D : Type 0} (rank : T → ℕ) (quorum : List (Entry T D) → (ID
       from_step bound ih s ds ok.1 (omega (arith, ok.0.term)) l (had_now ds l st)
   from_step bound ih s (GrantVote t c ∷ ds) ok lt l (inr had) =
       from_step bound ih s ds ok.1 (omega (arith, ok.0.term)) l had
+  from_step bound ih s (LateVote t c ∷ ds) ok lt l (inl st) =
+      from_step bound ih s ds ok.1 lt l (had_now ds l st)
+  from_step bound ih s (LateVote t c ∷ ds) ok lt l (inr had) = from_step bound ih s ds ok.1 lt l had
   from_step bound ih s (Restart log ∷ ds) ok lt l (inl st) =
       from_step bound ih s ds ok.1 lt l (had_less ds l log st ok.0.had)
   from_step bound ih s (Restart log ∷ ds) ok lt l (inr had) = from_step bound ih s ds ok.1 lt l had
@@ -258,6 +257,7 @@ module _ {T ID D : Type 0} (rank : T → ℕ) (quorum : List (Entry T D) → (ID
   kept s t c n bound p held st [] ok lt a = absurd a
   kept s t c n bound p held st (GrantVote u d ∷ ds) ok lt a =
       kept s t c n bound p held st ds ok.1 (omega (arith, ok.0.term)) a
+  kept s t c n bound p held st (LateVote u d ∷ ds) ok lt a = kept s t c n bound p held st ds ok.1 lt a
   kept s t c n bound p held st (Append u d log ∷ ds) ok lt a =
       let before : IsDurable p ds =
       kept s t c n bound p held st ds ok.1 (omega (arith, ok.0.term)) a in (
@@ -301,6 +301,10 @@ module _ {T ID D : Type 0} (rank : T → ℕ) (quorum : List (Entry T D) → (ID
       absurd (omega (arith, le, lt, voted_term s u d ds ok.1 v, ok.0.term))
   kept_at_vote s r p u d lt (GrantVote w e ∷ ds) ok (inr v) (now, inr x) =
       kept_at_vote s r p u d lt ds ok.1 v x
+  kept_at_vote s r p u d lt (LateVote w e ∷ ds) ok v (now, inl le) =
+      absurd (omega (arith, le, lt, voted_term s u d ds ok.1 v))
+  kept_at_vote s r p u d lt (LateVote w e ∷ ds) ok v (now, inr x) =
+      kept_at_vote s r p u d lt ds ok.1 v x
   kept_at_vote s r p u d lt (Append w e log ∷ ds) ok v (now, inl le) =
       absurd (omega (arith, le, lt, voted_term s u d ds ok.1 v, ok.0.term))
   kept_at_vote s r p u d lt (Append w e log ∷ ds) ok v (now, inr x) =
@@ -332,6 +336,8 @@ module _ {T ID D : Type 0} (rank : T → ℕ) (quorum : List (Entry T D) → (ID
         had = durable_now ds p (kept s t c n (rank u) p held st ds ok.1 may.term a);
       }
   had_at_vote s t c n u d p lt held st (GrantVote w e ∷ ds) ok (inr v) a =
+      had_at_vote s t c n u d p lt held st ds ok.1 v a
+  had_at_vote s t c n u d p lt held st (LateVote w e ∷ ds) ok v a =
       had_at_vote s t c n u d p lt held st ds ok.1 v a
   had_at_vote s t c n u d p lt held st (Append w e log ∷ ds) ok v a =
       had_at_vote s t c n u d p lt held st ds ok.1 v a

@@ -28,7 +28,7 @@ use Rattle.std.proofs.Common.{refl, sym, ap, inl, inr, arith, ltb-true}
 use Rattle.std.proofs.Math.Nat.{le-min, le-max_left, le-max_right}
 use Rattle.std.proofs.lemmas.Bool.{eqb-true, leb-true, and_from}
 use Rattle.raft_safety.specs.Log.{Entry, IsPrefix, IsUpToDate, last_term}
-use Rattle.raft_safety.specs.Events.{Ack, Append, Event, GrantVote, HasKept, IsDurable, Restart, log_after, term_after}
+use Rattle.raft_safety.specs.Events.{Ack, Append, Event, GrantVote, LateVote, HasKept, IsDurable, Restart, log_after, term_after}
 use Rattle.raft_safety.specs.Facts.{HasAcked, HasVoted}
 use Rattle.raft_safety.specs.Configs.{HoldNoConfig}
 use Rattle.raft_safety.specs.Trace.{AreExact, Tests, common_prefix, durable, has_acked, has_kept, has_voted, hold_no_config, is_prefix, is_up_to_date, same_entry, same_leader}
@@ -134,6 +134,7 @@ module _ {T ID D M : Type 0} (k : Tests T ID D M) (exact : AreExact k) where
           → ((u ≡ t) × (d ≡ c)) ⊎ HasVoted t c es
       go (inl x) rec = inl (leader_right u t d c x)
       go (inr x) rec = inr (rec x)
+  voted_right t c (LateVote u d ∷ es) e = voted_right t c es e
   voted_right t c (Append u d log ∷ es) e = voted_right t c es e
   voted_right t c (Ack u d n ∷ es) e = voted_right t c es e
   voted_right t c (Restart log ∷ es) e = voted_right t c es e
@@ -142,6 +143,7 @@ module _ {T ID D M : Type 0} (k : Tests T ID D M) (exact : AreExact k) where
       → has_acked k t c n es ≡ true → HasAcked t c n es
   acked_right t c n [] e = absurd (cc)
   acked_right t c n (GrantVote u d ∷ es) e = acked_right t c n es e
+  acked_right t c n (LateVote u d ∷ es) e = acked_right t c n es e
   acked_right t c n (Append u d log ∷ es) e = acked_right t c n es e
   acked_right t c n (Ack u d m ∷ es) e =
       go (or_cases (same_leader k u d t c && nat_le n m) (has_acked k t c n es) e) (acked_right t c n es)
@@ -176,6 +178,7 @@ module _ {T ID D M : Type 0} (k : Tests T ID D M) (exact : AreExact k) where
       → length p ≤ durable k es
   durable_within [] p x = prefix_length x
   durable_within (GrantVote t c ∷ es) p x = durable_within es p x
+  durable_within (LateVote t c ∷ es) p x = durable_within es p x
   durable_within (Append t c log ∷ es) p x =
       le-min (durable_within es p x.1) (prefix_length (common_right (durable_now es p x.1) x.0))
   durable_within (Ack t c n ∷ es) p (inl x) = omega (arith, x.1, le-max_left n (durable k es))

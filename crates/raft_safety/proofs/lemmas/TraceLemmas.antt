@@ -2,18 +2,18 @@
 use Rattle.std.specs.Prelude.{◌≡◌, ◌⊎◌, ◌≤◌, ℕ, Bool, true, false, not, ◌&&◌, ◌||◌, nat_lt, nat_le, if◌then◌else◌, Option, Some, List, [], ◌∷◌, ◌++◌, length, take, drop, get_or}
 use Rattle.std.specs.Cmp.{first_so, second_so}
 use Rattle.std.proofs.Common.{refl, sym, ap, ◌∙◌, inl, inr, arith, ltb-true}
-use Rattle.std.proofs.lemmas.Bool.{leb-true, or_left, or_right}
+use Rattle.std.proofs.lemmas.Bool.{leb-true, ltb-false, or_left, or_right}
 use Rattle.std.proofs.lemmas.List.{length-append, length-take-le}
 use Rattle.std.proofs.lemmas.List.Prefix.{front_rest}
 use Rattle.raft_safety.specs.Log.{Entry, IsPrefix, last_term}
-use Rattle.raft_safety.specs.Events.{Ack, Append, Event, GrantVote, History, Restart, log_after}
+use Rattle.raft_safety.specs.Events.{Ack, Append, Event, GrantVote, LateVote, History, Restart, log_after}
 use Rattle.raft_safety.specs.Facts.{HasVoted, IsCommitted, IsElected}
-use Rattle.raft_safety.specs.Rules.{MayAck, MayAppend, MayGrantVote, MayRestart}
+use Rattle.raft_safety.specs.Rules.{MayAck, MayAppend, MayGrantVote, MayRestart, MayVoteLate}
 use Rattle.raft_safety.specs.Apply.{MayApply}
 use Rattle.raft_safety.specs.Configs.{HoldNoConfig, MayProposeConfig, QuorumsIntersect, effective_config, is_quorum}
 use Rattle.raft_safety.specs.Ranks.{IsAmong}
 use Rattle.raft_safety.specs.Execution.{IsExecution, LeaderAppends, MayDo, Next, ServerStep, StartsCampaign}
-use Rattle.raft_safety.specs.Trace.{Acked, Appended, Applied, AreExact, Campaigned, Committed, Granted, IsSafeTrace, Restarted, TermsHaveRanks, Tests, TraceEvent, WasApplied, Wrote, are_allowed, campaign_terms, candidate_log_in, common_prefix, durable, earlier, events_in, has_acked, has_campaigned, has_kept, has_voted, history, hold_no_config, is_allowed, is_config_committed, is_elected, is_known_committed, is_prefix, is_up_to_date, leader_log_in, log_in, same_leader, term_in}
+use Rattle.raft_safety.specs.Trace.{Acked, Appended, Applied, AreExact, Campaigned, Committed, Granted, IsSafeTrace, Restarted, TermsHaveRanks, Tests, TraceEvent, WasApplied, Wrote, are_allowed, campaign_terms, candidate_log_in, common_prefix, durable, earlier, events_in, has_acked, has_campaigned, has_kept, has_voted, history, hold_no_config, is_allowed, is_config_committed, is_elected, is_known_committed, is_prefix, is_up_to_date, leader_log_in, log_in, same_leader, term_in, voted_in}
 use Rattle.raft_safety.proofs.lemmas.PrefixLemmas.{append-nil, prefix_itself, prefix_trans, prefix_take, prefix_length, prefix_same, prefix_within}
 use Rattle.raft_safety.proofs.lemmas.RuleLemmas.{allowed_by_rules, is_committed, may_propose, passes}
 use Rattle.raft_safety.proofs.lemmas.ServerLemmas.{durable_now, had_now}
@@ -39,14 +39,16 @@ module _ {T ID D M : Type 0} (k : Tests T ID D M) (exact : AreExact k) where
   campaigned_if false u d es s t c rec x =
       or_right (same_leader k u d t c) (has_campaigned k t c es) (rec x)
 
-  granted_if : (b : Bool) (u : T) (d : ID) (es : Events) (s : ID) (t : T) (c : ID)
+  granted_if : (b v : Bool) (u : T) (d : ID) (es : Events) (s : ID) (t : T) (c : ID)
       → has_campaigned k u d es ≡ true
       → (HasVoted t c (events_in k es s) → has_campaigned k t c es ≡ true)
-      → HasVoted t c (if b then GrantVote u d ∷ events_in k es s else events_in k es s)
+      → HasVoted t c (if b then (if v then GrantVote u d else LateVote u d) ∷ events_in k es s
+      else events_in k es s)
       → has_campaigned k t c es ≡ true
-  granted_if true u d es s t c had rec (inl x) = rw (x.0, x.1) at had
-  granted_if true u d es s t c had rec (inr x) = rec x
-  granted_if false u d es s t c had rec x = rec x
+  granted_if true true u d es s t c had rec (inl x) = rw (x.0, x.1) at had
+  granted_if true true u d es s t c had rec (inr x) = rec x
+  granted_if true false u d es s t c had rec x = rec x
+  granted_if false v u d es s t c had rec x = rec x
 
   skip_append : (b : Bool) (u : T) (d : ID) (log : List (Entry T D)) (es : List (Event T ID D)) (t : T)
       (c : ID) → HasVoted t c (if b then Append u d log ∷ es else es) → HasVoted t c es
@@ -78,12 +80,12 @@ module _ {T ID D M : Type 0} (k : Tests T ID D M) (exact : AreExact k) where
       campaigned_if (k.same_id r s) u r es s t c
       (has_campaign es s t c (allowed_before (Campaigned r u) es ok)) x
   has_campaign (Granted r u d ∷ es) s t c ok x =
-      let a : Bool = nat_lt (term_in k es r) (k.rank u) in
+      let a : Bool = nat_le (term_in k es r) (k.rank u) && nat_lt (voted_in k es r) (k.rank u) in
       let b : Bool = has_campaigned k u d es in
       let f : Bool = not (k.same_id d r) && is_up_to_date k (candidate_log_in k es u d) (log_in k es r) in
       let had : b ≡ true =
       first_so b f (second_so a (b && f) (allowed_last (Granted r u d) es ok)) in
-      granted_if (k.same_id r s) u d es s t c had
+      granted_if (k.same_id r s) (nat_lt (term_in k es s) (k.rank u)) u d es s t c had
       (has_campaign es s t c (allowed_before (Granted r u d) es ok)) x
   has_campaign (Appended r u d n sent ∷ es) s t c ok x =
       has_campaign es s t c (allowed_before (Appended r u d n sent) es ok)
@@ -253,20 +255,44 @@ module _ {T ID D M : Type 0} (k : Tests T ID D M) (exact : AreExact k) where
       (has_campaign es s t c before x)
 
   may_grant : (es : Events) (s : ID) (t : T) (c : ID) → passes k (Granted s t c) es ≡ true
+      → nat_lt (term_in k es s) (k.rank t) ≡ true
       → MayGrantVote k.rank Q (history k (Granted s t c ∷ es)) s (events_in k es s) t c
-  may_grant es s t c ok =
-      let a : Bool = nat_lt (term_in k es s) (k.rank t) in
+  may_grant es s t c ok above =
+      let a : Bool = nat_le (term_in k es s) (k.rank t) && nat_lt (voted_in k es s) (k.rank t) in
       let b : Bool = has_campaigned k t c es in
       let d : Bool = not (k.same_id c s) in
       let e : Bool = is_up_to_date k (candidate_log_in k es t c) (log_in k es s) in
       let ok1 = second_so a (b && (d && e)) ok in
       let ok2 = second_so b (d && e) ok1 in
       record {
-        term = ltb-true (term_in k es s) (k.rank t) (first_so a (b && (d && e)) ok);
+        term = ltb-true (term_in k es s) (k.rank t) above;
         up_to_date =
             up_to_date_right k exact (candidate_log_in k es t c) (log_in k es s) (second_so d e ok2);
         own = λ x. absurd (not_so (k.same_id c s) (first_so d e ok2) (rw x (exact.id_itself s)));
       }
+
+  may_vote_late : (es : Events) (s : ID) (t : T) (c : ID) → passes k (Granted s t c) es ≡ true
+      → nat_lt (term_in k es s) (k.rank t) ≡ false → MayVoteLate k.rank (events_in k es s) t
+  may_vote_late es s t c ok reached =
+      let a : Bool = nat_le (term_in k es s) (k.rank t) in
+      let v : Bool = nat_lt (voted_in k es s) (k.rank t) in
+      let b : Bool = has_campaigned k t c es in
+      let d : Bool = not (k.same_id c s) in
+      let e : Bool = is_up_to_date k (candidate_log_in k es t c) (log_in k es s) in
+      let first : (a && v) ≡ true = first_so (a && v) (b && (d && e)) ok in
+      let le : term_in k es s ≤ k.rank t = leb-true (term_in k es s) (k.rank t) (first_so a v first) in
+      let ge : k.rank t ≤ term_in k es s = ltb-false (term_in k es s) (k.rank t) reached in
+      record {
+        term = omega arith;
+        voted = ltb-true (voted_in k es s) (k.rank t) (second_so a v first);
+      }
+
+  may_vote : (es : Events) (s : ID) (t : T) (c : ID) → passes k (Granted s t c) es ≡ true
+      → (b : Bool) → nat_lt (term_in k es s) (k.rank t) ≡ b
+      → MayDo k.rank k.config_of k.initial k.quorum_of (history k es)
+      (history k (Granted s t c ∷ es)) s (if b then GrantVote t c else LateVote t c)
+  may_vote es s t c ok true above = may_grant es s t c ok above
+  may_vote es s t c ok false reached = may_vote_late es s t c ok reached
 
   either_prefix : (a b c : List (Entry T D)) → (is_prefix k a b || is_prefix k a c) ≡ true
       → IsPrefix a b ⊎ IsPrefix a c
@@ -459,8 +485,10 @@ module _ {T ID D M : Type 0} (k : Tests T ID D M) (exact : AreExact k) where
   }
   step (Granted s t c) es ok ranks run = record {
     servers = λ r.
-        does (history k es) (history k (Granted s t c ∷ es)) (λ q. GrantVote t c) s
-        (may_grant es s t c (allowed_last (Granted s t c) es ok)) r (k.same_id s r) refl refl;
+        does (history k es) (history k (Granted s t c ∷ es))
+        (λ q. if nat_lt (term_in k es q) (k.rank t) then GrantVote t c else LateVote t c) s
+        (may_vote es s t c (allowed_last (Granted s t c) es ok) (nat_lt (term_in k es s) (k.rank t)) refl) r
+        (k.same_id s r) refl refl;
     leaders = λ u d.
         inr (nothing (history k es) (history k (Granted s t c ∷ es)) u d refl refl);
     ranks = ranks_right (Granted s t c ∷ es) ok ranks;

@@ -73,7 +73,7 @@ module _ {T N D : Type 0} where
   abbrev pub grant_rule : (T → ℕ) → (N → N → Bool) → Server T N D → Leader T N D → N → ℕ → N
       → Option Rule
   grant_rule rank eq s l id r c =
-      unless (nat_lt s.term r) PassedTerm
+      unless (nat_le s.term r && nat_lt s.voted r) PassedTerm
       (unless (not (eq c id)) OwnCandidate
       (unless (up_to_date_by rank (take l.start l.log.items) s.log.items) CandidateBehind None))
 
@@ -146,6 +146,7 @@ module _ {T N D : Type 0} where
 pub record IsNew {T N D : Type 0} (id : N) (s : Server T N D) : Type 0 where
   pub is_id : s.id ≡ id
   pub term : s.term ≡ 0
+  pub voted : s.voted ≡ 0
   pub log : s.log.items ≡ []
   pub durable : s.durable ≡ 0
   pub kept : s.kept.items ≡ []

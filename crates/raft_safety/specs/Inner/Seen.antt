@@ -4,7 +4,7 @@ use Rattle.std.specs.List.{find, IsDistinct}
 use Rattle.std.specs.Option.{MatchOption}
 use Rattle.std.specs.Set.{is_member}
 use Rattle.raft_safety.specs.Log.{Entry}
-use Rattle.raft_safety.specs.Events.{Event, term_after, log_after}
+use Rattle.raft_safety.specs.Events.{Event, term_after, voted_after, log_after}
 use Rattle.raft_safety.specs.Trace.{same_entry, TraceEvent, Tests, events_in, candidate_log_in, leader_log_in, has_voted, has_acked, durable, has_campaigned, is_elected, is_config_committed, hold_no_config, same_leader}
 use Rattle.raft_safety.specs.Inner.CheckerState.{kept_from, has_acked_to, config_committed, common_len}
 use Rattle.raft_safety.specs.declared.checker.server.Server.{Server}
@@ -22,6 +22,7 @@ module _ {T ID D : Type 0} (k : Tests T ID D (Option D)) where
   -- what is kept of a server is what its events say
   pub record SeesServer (evs : List (Event T ID D)) (s : Server T ID D) : Type 0 where
     pub term : term_after k.rank evs ≡ s.term
+    pub voted : voted_after k.rank evs ≡ s.voted
     pub log : log_after evs ≡ s.log.items
     pub durable : durable k evs ≡ s.durable
     pub kept : (r : ℕ) → r < s.term → kept_at k r evs ≡ kept_from 0 s.kept.items r

@@ -22,7 +22,7 @@ pub fn grant_rule<T: Term, N: Copy + Eq, D: Copy + Eq>(
 ) -> Option<Rule>
     ensures { result ≡ grant_rule T.rank N.eq server.now leader.now id rank candidate }
 {
-    if rank <= server.term {
+    if rank < server.term || rank <= server.voted {
         return Some(Rule::PassedTerm);
     }
     if candidate == id {

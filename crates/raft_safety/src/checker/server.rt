@@ -23,6 +23,8 @@ pub struct Server<T, N, D> {
     pub id: N,
     /// The rank of the term that the server has reached.
     pub term: u128,
+    /// The rank of the term in which the server has voted last, 0 if it has not voted.
+    pub voted: u128,
     /// The log of the server.
     pub log: Vec<Entry<T, D>>,
     /// How many first entries are durable.
@@ -36,6 +38,7 @@ impl<T: Term, N: Copy + Eq, D: Copy + Eq> Server<T, N, D> {
     pub fn new(alloc: Global, id: N) -> Self
         ensures id { result.id ≡ id }
         ensures term { result.term ≡ 0 }
+        ensures voted { result.voted ≡ 0 }
         ensures log { result.log.items ≡ [] }
         ensures durable { result.durable ≡ 0 }
         ensures kept { result.kept.items ≡ [] }
@@ -43,6 +46,7 @@ impl<T: Term, N: Copy + Eq, D: Copy + Eq> Server<T, N, D> {
         Server {
             id,
             term: 0,
+            voted: 0,
             log: Vec::new(alloc),
             durable: 0,
             kept: Vec::new(alloc),
@@ -70,6 +74,7 @@ impl<T: Term, N: Copy + Eq, D: Copy + Eq> Server<T, N, D> {
         ensures room { OnOk result (vec_len self.new.kept < vec_capacity self.new.kept) }
         ensures same_id { self.new.id ≡ self.old.id }
         ensures same_term { self.new.term ≡ self.old.term }
+        ensures same_voted { self.new.voted ≡ self.old.voted }
         ensures same_log { self.new.log.items ≡ self.old.log.items }
         ensures same_durable { self.new.durable ≡ self.old.durable }
         ensures same_kept { self.new.kept.items ≡ self.old.kept.items }
@@ -77,10 +82,11 @@ impl<T: Term, N: Copy + Eq, D: Copy + Eq> Server<T, N, D> {
         self.kept.reserve(1)
     }
 
-    /// Reaches a term.
+    /// Votes in a term, and reaches it.
     pub fn reach(&mut self, term: u128)
         requires { vec_len self.old.kept < vec_capacity self.old.kept }
         ensures term { self.new.term ≡ max self.old.term term }
+        ensures voted { self.new.voted ≡ term }
         ensures kept { self.new.kept.items
             ≡ kept_after self.old.kept.items self.old.term (length self.old.log.items) term }
         ensures same_id { self.new.id ≡ self.old.id }
@@ -89,6 +95,19 @@ impl<T: Term, N: Copy + Eq, D: Copy + Eq> Server<T, N, D> {
     {
         leave(&mut self.kept, self.term, self.log.len(), term);
         self.term = self.term.max(term);
+        self.voted = term;
+    }
+
+    /// Votes in a term that the server has reached.
+    pub fn vote_late(&mut self, term: u128)
+        ensures voted { self.new.voted ≡ term }
+        ensures same_id { self.new.id ≡ self.old.id }
+        ensures same_term { self.new.term ≡ self.old.term }
+        ensures same_log { self.new.log.items ≡ self.old.log.items }
+        ensures same_durable { self.new.durable ≡ self.old.durable }
+        ensures same_kept { self.new.kept.items ≡ self.old.kept.items }
+    {
+        self.voted = term;
     }
 
     /// Keeps the first entries of the log, and appends entries to them, in a term.
@@ -114,6 +133,7 @@ impl<T: Term, N: Copy + Eq, D: Copy + Eq> Server<T, N, D> {
             (drop keep self.old.log.items) entries.now))
             (kept_after self.old.kept.items self.old.term (length self.old.log.items) term)) }
         ensures same_id { self.new.id ≡ self.old.id }
+        ensures same_voted { self.new.voted ≡ self.old.voted }
         ensures err_term { OnErr result (self.new.term ≡ self.old.term) }
         ensures err_log { OnErr result (self.new.log.items ≡ self.old.log.items) }
         ensures err_durable { OnErr result (self.new.durable ≡ self.old.durable) }
@@ -135,6 +155,7 @@ impl<T: Term, N: Copy + Eq, D: Copy + Eq> Server<T, N, D> {
         ensures durable { self.new.durable ≡ max len self.old.durable }
         ensures same_id { self.new.id ≡ self.old.id }
         ensures same_term { self.new.term ≡ self.old.term }
+        ensures same_voted { self.new.voted ≡ self.old.voted }
         ensures same_log { self.new.log.items ≡ self.old.log.items }
         ensures same_kept { self.new.kept.items ≡ self.old.kept.items }
     {
@@ -148,6 +169,7 @@ impl<T: Term, N: Copy + Eq, D: Copy + Eq> Server<T, N, D> {
         ensures kept { self.new.kept.items ≡ map (at_most len) self.old.kept.items }
         ensures same_id { self.new.id ≡ self.old.id }
         ensures same_term { self.new.term ≡ self.old.term }
+        ensures same_voted { self.new.voted ≡ self.old.voted }
     {
         self.log.truncate(len);
         self.keep_at_most(len);
@@ -159,6 +181,7 @@ impl<T: Term, N: Copy + Eq, D: Copy + Eq> Server<T, N, D> {
         ensures kept { self.new.kept.items ≡ map (at_most len) self.old.kept.items }
         ensures same_id { self.new.id ≡ self.old.id }
         ensures same_term { self.new.term ≡ self.old.term }
+        ensures same_voted { self.new.voted ≡ self.old.voted }
         ensures same_log { self.new.log.items ≡ self.old.log.items }
     {
         self.durable = self.durable.min(len);

@@ -19,6 +19,7 @@ returns-clause-at g c =
         is_new = record {
           is_id = c.new.ensures.id;
           term = c.new.ensures.term;
+          voted = c.new.ensures.voted;
           log = c.new.ensures.log;
           durable = c.new.ensures.durable;
           kept = c.new.ensures.kept;

@@ -54,7 +54,7 @@ returns-clause-answer g c =
     c.index-2.ensures
     c.index_mut.ensures.value seen
     (rw c.rank-rank.ensures at (sym c.in-None-ack_rule.ensures))
-    c.ack-2.ensures.same_id c.ack-2.ensures.same_term c.ack-2.ensures.same_log c.ack-2.ensures.durable
+    c.ack-2.ensures.same_id c.ack-2.ensures.same_term c.ack-2.ensures.same_voted c.ack-2.ensures.same_log c.ack-2.ensures.durable
     c.ack-2.ensures.same_kept c.in_ok-ack.ensures.acked
     (record {
       term = c.in_ok-ack.ensures.same_term;

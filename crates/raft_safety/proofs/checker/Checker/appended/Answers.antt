@@ -38,7 +38,7 @@ returns-in_err-append-clause-answer g c =
       same_server _ exact es c.args.server c.args.self.now.servers.items c.server_at.new.servers.items c.args.self.now.leaders.items
           c.in_ok-i.i
           c.index_mut.result.now c.append.new.self c.in_ok-i.ensures.at c.index_mut.ensures.value seen
-          c.in_err-append.ensures.same_id c.in_err-append.ensures.err_term c.in_err-append.ensures.err_log
+          c.in_err-append.ensures.same_id c.in_err-append.ensures.err_term c.in_err-append.ensures.same_voted c.in_err-append.ensures.err_log
           c.in_err-append.ensures.err_durable c.in_err-append.ensures.err_kept,
     ))
 
@@ -50,7 +50,7 @@ returns-clause-answer g c =
     c.in_ok-i.ensures.at c.index.ensures c.index_mut.ensures.value (rw c.deref.ensures.value at (sym c.in-Some.ensures.place))
     c.index-2.ensures seen
     (rw c.rank-rank.ensures at (sym c.in-None-append_rule.ensures))
-    c.in_ok-append.ensures.same_id (rw c.rank-rank.ensures at c.in_ok-append.ensures.term)
+    c.in_ok-append.ensures.same_id (rw c.rank-rank.ensures at c.in_ok-append.ensures.term) c.in_ok-append.ensures.same_voted
     c.in_ok-append.ensures.log c.in_ok-append.ensures.durable
     (rw c.rank-rank.ensures at c.in_ok-append.ensures.kept)
 

@@ -32,7 +32,7 @@ returns-in_err-reserve-clause-answer g c =
       rw c.in_err-reserve.ensures.items (same_server _ exact es c.args.server c.args.self.now.servers.items c.server_at.new.servers.items
           c.args.self.now.leaders.items c.in_ok-i.i
           c.index_mut-voter.result.now c.index_mut-voter.result.now c.in_ok-i.ensures.at c.index_mut-voter.ensures.value seen
-          refl refl refl refl refl),
+          refl refl refl refl refl refl),
     ))
 
 pub returns-in_err-make_room-clause-answer : goal.returns-in_err-make_room-clause-answer
@@ -43,7 +43,7 @@ returns-in_err-make_room-clause-answer g c =
       rw c.in_ok-reserve.ensures.items (same_server _ exact es c.args.server c.args.self.now.servers.items c.server_at.new.servers.items
           c.args.self.now.leaders.items c.in_ok-i.i
           c.index_mut-voter.result.now c.make_room.new.self c.in_ok-i.ensures.at c.index_mut-voter.ensures.value seen
-          c.in_err-make_room.ensures.same_id c.in_err-make_room.ensures.same_term c.in_err-make_room.ensures.same_log
+          c.in_err-make_room.ensures.same_id c.in_err-make_room.ensures.same_term c.in_err-make_room.ensures.same_voted c.in_err-make_room.ensures.same_log
           c.in_err-make_room.ensures.same_durable c.in_err-make_room.ensures.same_kept),
     ))
 
@@ -55,7 +55,7 @@ returns-in_err-leader-clause-answer g c =
       rw c.in_ok-reserve.ensures.items (same_server _ exact es c.args.server c.args.self.now.servers.items c.server_at.new.servers.items
           c.args.self.now.leaders.items c.in_ok-i.i
           c.index_mut-voter.result.now c.make_room.new.self c.in_ok-i.ensures.at c.index_mut-voter.ensures.value seen
-          c.in_ok-make_room.ensures.same_id c.in_ok-make_room.ensures.same_term c.in_ok-make_room.ensures.same_log
+          c.in_ok-make_room.ensures.same_id c.in_ok-make_room.ensures.same_term c.in_ok-make_room.ensures.same_voted c.in_ok-make_room.ensures.same_log
           c.in_ok-make_room.ensures.same_durable c.in_ok-make_room.ensures.same_kept),
     ))
 
@@ -71,6 +71,7 @@ returns-clause-answer g c =
     (rw c.rank-rank.ensures at c.if-rank-index.false)
     (c.reach.ensures.same_id ∙ c.in_ok-make_room.ensures.same_id)
     (rw c.rank-rank.ensures at c.reach.ensures.term ∙ ap (λ x. max x (g.T.Term.rank c.args.term)) c.in_ok-make_room.ensures.same_term)
+    (rw c.rank-rank.ensures at c.reach.ensures.voted)
     (c.reach.ensures.same_log ∙ c.in_ok-make_room.ensures.same_log) (c.reach.ensures.same_durable ∙ c.in_ok-make_room.ensures.same_durable)
     (rw c.rank-rank.ensures at c.reach.ensures.kept
     ∙ (λ q. kept_after (c.in_ok-make_room.ensures.same_kept q) (c.in_ok-make_room.ensures.same_term q)

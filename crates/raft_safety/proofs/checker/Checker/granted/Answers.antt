@@ -2,7 +2,7 @@ use Rattle.std.proofs.Common.{sym, refl, ◌∙◌, ap, max, length}
 use Rattle.std.proofs.lemmas.Result.{err_from_is_err_and}
 use Rattle.raft_safety.specs.Inner.CheckerState.{kept_after}
 use Rattle.raft_safety.proofs.lemmas.CheckerLemmas.{grant_refused}
-use Rattle.raft_safety.proofs.lemmas.CheckerStepLemmas.{grant_done, grant_unled, same_leader_again, same_server}
+use Rattle.raft_safety.proofs.lemmas.CheckerStepLemmas.{grant_done, grant_unled, late_vote_done, same_leader_again, same_server}
 use Rattle.raft_safety.proofs.lemmas.LoopLemmas.{within_len}
 use Rattle.raft_safety.proofs.checker.Checker.granted.Goals as goal
 
@@ -24,6 +24,18 @@ returns-in-Some-grant_rule-clause-answer g c =
     (rw c.deref.ensures.value at (sym c.in-Some.ensures.place)) c.index-2.ensures seen
     (rw c.rank-rank.ensures at (sym c.in-Some-grant_rule.ensures))
 
+pub returns-then-rank-voter-clause-answer : goal.returns-then-rank-voter-clause-answer
+returns-then-rank-voter-clause-answer g c =
+    λ exact es seen. late_vote_done _ exact es c.args.server c.args.term c.args.candidate
+    c.args.self.now.servers.items c.server_at.new.servers.items c.args.self.now.leaders.items c.in_ok-i.i c.in-Some.j
+    c.index.result.now c.index_mut-voter.result.now c.vote_late.new.self c.index-2.result.now
+    c.in_ok-i.ensures.at c.index.ensures c.index_mut-voter.ensures.value
+    (rw c.deref.ensures.value at (sym c.in-Some.ensures.place)) c.index-2.ensures seen
+    (rw c.rank-rank.ensures at (sym c.in-None-grant_rule.ensures))
+    (rw c.rank-rank.ensures at c.if-rank-voter.true)
+    c.vote_late.ensures.same_id c.vote_late.ensures.same_term (rw c.rank-rank.ensures at c.vote_late.ensures.voted)
+    c.vote_late.ensures.same_log c.vote_late.ensures.same_durable c.vote_late.ensures.same_kept
+
 pub returns-in_err-make_room-clause-answer : goal.returns-in_err-make_room-clause-answer
 returns-in_err-make_room-clause-answer g c =
     let p = err_from_is_err_and c.from_residual-in_err-make_room.result c.from_residual-in_err-make_room.ensures.1 in
@@ -32,7 +44,7 @@ returns-in_err-make_room-clause-answer g c =
       same_server _ exact es c.args.server c.args.self.now.servers.items c.server_at.new.servers.items c.args.self.now.leaders.items
           c.in_ok-i.i
           c.index_mut-voter.result.now c.make_room.new.self c.in_ok-i.ensures.at c.index_mut-voter.ensures.value seen
-          c.in_err-make_room.ensures.same_id c.in_err-make_room.ensures.same_term c.in_err-make_room.ensures.same_log
+          c.in_err-make_room.ensures.same_id c.in_err-make_room.ensures.same_term c.in_err-make_room.ensures.same_voted c.in_err-make_room.ensures.same_log
           c.in_err-make_room.ensures.same_durable c.in_err-make_room.ensures.same_kept,
     ))
 
@@ -46,7 +58,7 @@ returns-in_err-vote-clause-answer g c =
           (same_server _ exact es c.args.server c.args.self.now.servers.items c.server_at.new.servers.items c.args.self.now.leaders.items
           c.in_ok-i.i
           c.index_mut-voter.result.now c.make_room.new.self c.in_ok-i.ensures.at c.index_mut-voter.ensures.value seen
-          c.in_ok-make_room.ensures.same_id c.in_ok-make_room.ensures.same_term c.in_ok-make_room.ensures.same_log
+          c.in_ok-make_room.ensures.same_id c.in_ok-make_room.ensures.same_term c.in_ok-make_room.ensures.same_voted c.in_ok-make_room.ensures.same_log
           c.in_ok-make_room.ensures.same_durable c.in_ok-make_room.ensures.same_kept)
           c.in_err-vote.ensures.same_acked
           (record {
@@ -70,8 +82,10 @@ returns-clause-answer g c =
     c.index-2.ensures
     c.index_mut.ensures.value seen
     (rw c.rank-rank.ensures at (sym c.in-None-grant_rule.ensures))
+    (rw c.rank-rank.ensures at c.if-rank-voter.false)
     (c.reach.ensures.same_id ∙ c.in_ok-make_room.ensures.same_id)
     (rw c.rank-rank.ensures at c.reach.ensures.term ∙ ap (λ x. max x (g.T.Term.rank c.args.term)) c.in_ok-make_room.ensures.same_term)
+    (rw c.rank-rank.ensures at c.reach.ensures.voted)
     (c.reach.ensures.same_log ∙ c.in_ok-make_room.ensures.same_log) (c.reach.ensures.same_durable ∙ c.in_ok-make_room.ensures.same_durable)
     (rw c.rank-rank.ensures at c.reach.ensures.kept
     ∙ (λ q. kept_after (c.in_ok-make_room.ensures.same_kept q) (c.in_ok-make_room.ensures.same_term q)

@@ -21,4 +21,4 @@ returns-clause-answer g c =
     c.args.self.now.leaders.items c.in_ok-i.i c.args.len
     c.index.result.now c.index_mut.result.now c.restart.new.self c.in_ok-i.ensures.at c.index.ensures
     c.index_mut.ensures.value seen (sym c.in-None.ensures) c.restart.ensures.same_id
-    c.restart.ensures.same_term c.restart.ensures.log c.restart.ensures.durable c.restart.ensures.kept
+    c.restart.ensures.same_term c.restart.ensures.same_voted c.restart.ensures.log c.restart.ensures.durable c.restart.ensures.kept
