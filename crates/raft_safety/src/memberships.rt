@@ -1,12 +1,12 @@
 //! Memberships of the layer as configs of the checker.
-ghost use Rattle.std.specs.Prelude.{◌≡◌, map, true};
+ghost use Rattle.std.specs.Prelude.{◌≡◌, ◌||◌, map, true};
 ghost use Rattle.std.specs.List.{IsDistinct, list_any, list_all};
 ghost use Rattle.std.specs.Set.{is_member};
 ghost use Rattle.raft_members.specs.quorum.Coherence.{share_child};
 ghost use Rattle.raft_members.specs.quorum.Majority.{is_majority};
 ghost use Rattle.raft_safety.specs.Checker.{tests_of};
 ghost use Rattle.raft_safety.specs.Trace.{AreExact};
-ghost use Rattle.raft_safety.specs.Memberships.{configs_of};
+ghost use Rattle.raft_safety.specs.Memberships.{configs_of, majorities_meet, meets_some, some_meet};
 
 use crate::checker::Configs;
 use crate::term::Term;
@@ -21,8 +21,9 @@ pub struct Memberships<N, D> {
     pub held: Vec<(D, Vec<Vec<N>>)>,
 }
 
-/// A quorum is a majority of each config, and memberships that share a config are known to have
-/// intersecting quorums.
+/// A quorum is a majority of each config. Two memberships are known to have intersecting quorums if
+/// they share a config, or if any majorities of a config of one and of a config of the other share a
+/// server. So a membership may change to one whose config has one server more or less.
 impl<N: Copy + Ord, D: Copy + Eq> Configs<N, D> for Memberships<N, D> {
     ghost holds_config = { λ m d. list_any (λ p. D.eq p.0 d) m.held.items };
 
@@ -30,9 +31,10 @@ impl<N: Copy + Ord, D: Copy + Eq> Configs<N, D> for Memberships<N, D> {
         m.initial.items (map (λ p. (p.0, p.1.items)) m.held.items) c) };
 
     ghost intersects = { λ m a b.
-        share_child ⟦<Vec<N> as PartialEq>⟧.eq
-        (configs_of D.eq m.initial.items (map (λ p. (p.0, p.1.items)) m.held.items) a)
-        (configs_of D.eq m.initial.items (map (λ p. (p.0, p.1.items)) m.held.items) b) };
+        let these = configs_of D.eq m.initial.items (map (λ p. (p.0, p.1.items)) m.held.items) a in
+        let others = configs_of D.eq m.initial.items (map (λ p. (p.0, p.1.items)) m.held.items) b in
+        share_child ⟦<Vec<N> as PartialEq>⟧.eq these others
+        || some_meet N.eq (λ q. q.items) these others };
 
     fn holds_config(&self, content: D) -> bool {
         for m in &self.held {
@@ -53,15 +55,15 @@ impl<N: Copy + Ord, D: Copy + Eq> Configs<N, D> for Memberships<N, D> {
     }
 
     fn do_intersect(&self, config: Option<D>, other: Option<D>) -> bool
-        ensures { result ≡ share_child ⟦<Vec<N> as PartialEq>⟧.eq
-            (configs_of D.eq self.now.initial.items
-            (map (λ p. (p.0, p.1.items)) self.now.held.items) config)
-            (configs_of D.eq self.now.initial.items
-            (map (λ p. (p.0, p.1.items)) self.now.held.items) other) }
+        ensures { let held = map (λ p. (p.0, p.1.items)) self.now.held.items in
+            let these = configs_of D.eq self.now.initial.items held config in
+            let others = configs_of D.eq self.now.initial.items held other in
+            result ≡ (share_child ⟦<Vec<N> as PartialEq>⟧.eq these others
+            || some_meet N.eq (λ q. q.items) these others) }
     {
-        let joint = Joint::new(self.configs_of(config));
-        let other_joint = Joint::new(self.configs_of(other));
-        joint.is_coherent_with(&other_joint)
+        let these = self.configs_of(config);
+        let others = self.configs_of(other);
+        Joint::new(these).is_coherent_with(&Joint::new(others)) || some_meet(these, others)
     }
 }
 
@@ -81,6 +83,44 @@ impl<N: Copy + Ord, D: Copy + Eq> Memberships<N, D> {
         }
         &self.initial[..0]
     }
+}
+
+/// Whether majorities of one of these configs and of one of the others are known to share a server.
+fn some_meet<N: Copy + Ord>(these: &[Vec<N>], others: &[Vec<N>]) -> bool
+    ensures { result ≡ some_meet N.eq (λ q. q.items) these.now others.now }
+{
+    for config in these {
+        if meets_some(config, others) {
+            return true;
+        }
+    }
+    false
+}
+
+/// Whether majorities of a config and of one of these configs are known to share a server.
+fn meets_some<N: Copy + Ord>(config: &[N], others: &[Vec<N>]) -> bool
+    ensures { result ≡ meets_some N.eq (λ q. q.items) config.now others.now }
+{
+    for other in others {
+        if do_majorities_meet(config, other) {
+            return true;
+        }
+    }
+    false
+}
+
+/// Whether majorities of two configs are known to share a server.
+fn do_majorities_meet<N: Copy + Ord>(config: &[N], other: &[N]) -> bool
+    ensures { result ≡ majorities_meet N.eq config.now other.now }
+{
+    let mut added: usize = 0;
+    for id in other {
+        if !config.contains(id) {
+            added += 1;
+        }
+    }
+    let servers = config.len() as u128 + added as u128;
+    servers < config.len() as u128 / 2 + other.len() as u128 / 2 + 2
 }
 
 /// The premise of the contract of a checker, for memberships of the layer: if terms, ids and

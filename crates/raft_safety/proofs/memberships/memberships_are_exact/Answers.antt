@@ -1,6 +1,6 @@
 use Rattle.std.proofs.Common.{map}
 use Rattle.raft_safety.specs.Memberships.{configs_of}
-use Rattle.raft_safety.proofs.lemmas.MembershipsLemmas.{sharing_intersect}
+use Rattle.raft_safety.proofs.lemmas.MembershipsLemmas.{known_intersect}
 use Rattle.raft_safety.proofs.memberships.memberships_are_exact.Goals as goal
 
 pub returns : goal.returns
@@ -15,6 +15,6 @@ returns g c = λ same_terms same_ids same_contents.
       same_content = same_contents;
       content_itself = λ x. g.met.D.Eq.laws.refl x;
       intersect = λ a b shared s t in_a in_b.
-          sharing_intersect g.met.N.Eq.laws same_ids (λ q. q.items) (configs_of g.D.PartialEq.eq initial held a)
+          known_intersect g.met.N.Eq.laws same_ids (λ q. q.items) (configs_of g.D.PartialEq.eq initial held a)
           (configs_of g.D.PartialEq.eq initial held b) shared s t in_a in_b;
     }
