@@ -1,8 +1,8 @@
 -- What a server may apply, and state machine safety.
-use Rattle.std.specs.Prelude.{◌⊎◌, ◌≤◌, ℕ, Bool, List, take}
+use Rattle.std.specs.Prelude.{◌⊎◌, ◌≤◌, ℕ, Bool, List, length, take}
 use Rattle.raft_safety.specs.Log.{Entry, IsPrefix}
 use Rattle.raft_safety.specs.Events.{Event, History, log_after}
-use Rattle.raft_safety.specs.Facts.{HasAcked, IsCommitted}
+use Rattle.raft_safety.specs.Facts.{IsCommitted, IsElected}
 use Rattle.raft_safety.specs.Rules.{EventsFollowRules, FollowsRaft}
 use Rattle.raft_safety.specs.Safety.{IsSafe}
 
@@ -18,12 +18,15 @@ module _ {T ID D : Type 0} (rank : T → ℕ) (quorum : List (Entry T D) → (ID
     pub not_later : rank in_term ≤ rank t
     pub is : IsPrefix (take k (h.leader_log t c)) (take committed_to (h.leader_log in_term by_leader))
 
-  -- a server may apply the first k entries of its log: it has acknowledged as many to a leader that
-  -- knows them to be committed
+  -- a server may apply the first k entries of its log: they are the first ones of an elected leader's
+  -- log, and known to be committed in the leader's term. They need not be durable at this server, so a
+  -- leader may apply what a quorum of other servers has acknowledged
   pub record MayApply (es : List (Event T ID D)) (k : ℕ) : Type 0 where
     pub term : T
     pub leader : ID
-    pub acked : HasAcked term leader k es
+    pub elected : IsElected rank quorum h term leader
+    pub written : k ≤ length (h.leader_log term leader)
+    pub in_log : IsPrefix (take k (h.leader_log term leader)) (log_after es)
     pub known : IsKnownCommitted term leader k
 
   -- state machine safety: of what two servers may apply, each after some of its events, one is a

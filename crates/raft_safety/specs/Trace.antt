@@ -9,7 +9,7 @@ use Rattle.raft_safety.specs.Ranks.{IsAmong}
 use Rattle.raft_safety.specs.Safety.{IsSafe}
 use Rattle.raft_safety.specs.Execution.{IsExecution}
 use Rattle.raft_safety.specs.declared.rule.Rule.{Rule}
-use Rattle.raft_safety.specs.declared.rule.Rule.TheVariants.{PassedTerm, CampaignedTwice, NoCampaign, OwnCandidate, CandidateBehind, NotElected, MissingEntries, DropsMatching, ForeignEntries, TermNotReached, NotWritten, NotKept, LostAcked, OtherTerm, ApartConfigs, ApartQuorums, EarlyConfig, EarlierTerm, CountedEarly, NoQuorum, NotAcked, NotCommitted}
+use Rattle.raft_safety.specs.declared.rule.Rule.TheVariants.{PassedTerm, CampaignedTwice, NoCampaign, OwnCandidate, CandidateBehind, NotElected, MissingEntries, DropsMatching, ForeignEntries, TermNotReached, NotWritten, NotKept, LostAcked, OtherTerm, ApartConfigs, ApartQuorums, EarlyConfig, EarlierTerm, CountedEarly, NoQuorum, NotInLog, NotCommitted}
 
 -- a recorded event. Events of different servers are in one order, in which an event comes after those
 -- that it depends on. A trace is a list of them, the latest first
@@ -31,7 +31,7 @@ pub data TraceEvent (T ID D : Type 0) : Type 0 where
   -- a leader commits so many first entries in its term, by a quorum of the config that was in effect
   -- when its log had as many entries as the second number
   Committed : ID → T → ℕ → ℕ → TraceEvent T ID D
-  -- a server applies so many first entries, which it has acknowledged in a term to its leader
+  -- a server applies so many first entries, which are those of the leader of a term
   Applied : ID → T → ID → ℕ → TraceEvent T ID D
 
 -- what the test compares by: the ranks of terms, tests whether terms, ids and contents are equal, the
@@ -275,8 +275,10 @@ module _ {T ID D M : Type 0} (k : Tests T ID D M) where
       (unless (is_quorum_of_log (take m (leader_log_in k es t c))
       (λ v. has_acked k t c n (events_in k es v))) NoQuorum None))))
   broken_rule (Applied s t c n) es =
-      unless (has_acked k t c n (events_in k es s)) NotAcked
-      (unless (is_known_committed (k.rank t) (take n (leader_log_in k es t c)) es) NotCommitted None)
+      unless (is_elected es t c) NotElected
+      (unless (nat_le n (length (leader_log_in k es t c))) NotWritten
+      (unless (is_prefix k (take n (leader_log_in k es t c)) (log_in k es s)) NotInLog
+      (unless (is_known_committed (k.rank t) (take n (leader_log_in k es t c)) es) NotCommitted None)))
 
   -- an event is allowed after the earlier ones if it breaks no rule
   abbrev pub is_allowed : TraceEvent T ID D → List (TraceEvent T ID D) → Bool

@@ -16,7 +16,9 @@ use crate::entry::Entry;
 use crate::event::Event;
 use crate::rule::Rule;
 use crate::term::Term;
-use broken::{ack_rule, append_rule, commit_rule, grant_rule, knows, restart_rule, write_rule};
+use broken::{
+    ack_rule, append_rule, apply_rule, commit_rule, grant_rule, knows, restart_rule, write_rule,
+};
 pub use configs::Configs;
 use leader::Leader;
 use logs::{effective_config, first};
@@ -281,17 +283,21 @@ impl<T: Term, N: Copy + Eq, D: Copy + Eq, C: Configs<N, D> + Drop> Checker<T, N,
     }
 
     /// A server applies entries.
-    fn applied(&self, server: N, term: T, leader: N, len: usize) -> Result<(), Violation>
-        ensures { Answers (tests_of T.Term N.PartialEq D.PartialEq C.Configs self.now.configs)
-            (Applied server term leader len) self.now.servers.items self.now.leaders.items
-            self.now.servers.items self.now.leaders.items result }
+    fn applied(&mut self, server: N, term: T, leader: N, len: usize) -> Result<(), Violation>
+        ensures configs { self.new.configs ≡ self.old.configs }
+        ensures answer { Answers (tests_of T.Term N.PartialEq D.PartialEq C.Configs
+            self.old.configs)
+            (Applied server term leader len) self.old.servers.items self.old.leaders.items
+            self.new.servers.items self.new.leaders.items result }
     {
         let j = match leader_at(&self.leaders, term, leader) {
             Some(j) => j,
-            None => return Err(Violation::Rule(Rule::NotAcked)),
+            None => return Err(Violation::Rule(Rule::NotElected)),
         };
-        if !self.leaders[j].has_acked(server, len) {
-            return Err(Violation::Rule(Rule::NotAcked));
+        let i = server_at(self.alloc, &mut self.servers, server)?;
+        match apply_rule(&self.servers[i], &self.leaders[j], len) {
+            Some(rule) => return Err(Violation::Rule(rule)),
+            None => {}
         }
         let prefix = first(&self.leaders[j].log, len);
         if !any_knows(&self.leaders, term.rank(), prefix) {

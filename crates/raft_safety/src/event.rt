@@ -80,9 +80,9 @@ pub enum Event<T, N, D> {
     Applied {
         /// The server.
         server: N,
-        /// The term in which the server has acknowledged these entries.
+        /// A term whose leader knows these entries to be committed.
         term: T,
-        /// The leader to which it has acknowledged them.
+        /// The leader of this term. Its log begins with these entries too.
         leader: N,
         /// How many first entries.
         len: usize,

@@ -49,8 +49,8 @@ pub enum Rule {
     CountedEarly,
     /// A quorum has acknowledged what is committed.
     NoQuorum,
-    /// A server applies entries that it has acknowledged.
-    NotAcked,
+    /// A server applies entries that are in its log and in the leader's log.
+    NotInLog,
     /// A server applies entries that are committed.
     NotCommitted,
 }
@@ -86,7 +86,7 @@ impl Rule {
             Rule::EarlierTerm => "the last committed entry is of an earlier term",
             Rule::CountedEarly => "the quorum is counted before the entries are written",
             Rule::NoQuorum => "no quorum has acknowledged the entries",
-            Rule::NotAcked => "the server has not acknowledged the entries",
+            Rule::NotInLog => "the server's log does not begin with the leader's entries",
             Rule::NotCommitted => "the entries are not known to be committed",
         }
     }

@@ -7,7 +7,7 @@ use Rattle.std.specs.Set.{is_member}
 use Rattle.std.proofs.Common.{refl, sym, ap, ◌∙◌, subst, inl, inr, arith}
 use Rattle.std.proofs.lemmas.List.Folds.{find-append}
 use Rattle.std.proofs.lemmas.List.Quantifiers.{position-Some}
-use Rattle.raft_safety.specs.declared.rule.Rule.TheVariants.{OtherTerm, ApartConfigs, ApartQuorums, EarlyConfig, EarlierTerm, CountedEarly, NoQuorum, NotAcked, NotCommitted, CampaignedTwice, NotElected, PassedTerm, MissingEntries, DropsMatching, ForeignEntries, TermNotReached, NotWritten, NotKept, LostAcked}
+use Rattle.raft_safety.specs.declared.rule.Rule.TheVariants.{OtherTerm, ApartConfigs, ApartQuorums, EarlyConfig, EarlierTerm, CountedEarly, NoQuorum, NotInLog, NotCommitted, CampaignedTwice, NotElected, PassedTerm, MissingEntries, DropsMatching, ForeignEntries, TermNotReached, NotWritten, NotKept, LostAcked}
 use Rattle.raft_safety.proofs.lemmas.PrefixLemmas.{prefix_length}
 use Rattle.raft_safety.proofs.lemmas.TestLemmas.{leader_right, leader_from, prefix_right, entry_right, entry_itself}
 use Rattle.std.proofs.lemmas.Bool.{cases_Bool, and_from, and_right, cases_lt, leb-true, leb-false, lt-ltb, le-ltb, le-leb}
@@ -15,8 +15,8 @@ use Rattle.std.proofs.lemmas.List.{take_all, take-append-le, length-append, leng
 use Rattle.raft_safety.specs.Log.{Entry}
 use Rattle.raft_safety.specs.Configs.{effective_config}
 use Rattle.raft_safety.specs.Events.{Event, GrantVote, LateVote, Ack, log_after, term_after}
-use Rattle.raft_safety.specs.Trace.{AreExact, Tests, TraceEvent, Campaigned, Granted, Appended, Acked, Restarted, Wrote, Committed, Applied, events_in, has_campaigned, is_elected, is_allowed, are_allowed, same_entry, same_leader, hold_no_config, and_vote, and_append, and_restart, has_kept, has_acked, has_voted, candidate_log_in, leader_log_in, is_config_committed, is_known_committed, is_quorum_of_log, is_prefix, common_prefix, unless, broken_rule, proposal_rule}
-use Rattle.raft_safety.specs.Inner.CheckerState.{write_rule, config_rule, config_in, no_config_in, append_rule, ack_rule, restart_rule, grant_rule, commit_rule, knows, has_committed, has_kept_by, has_acked_to, config_committed, common_len, kept_from, kept_after, at_most, IsAdded, HasPlace}
+use Rattle.raft_safety.specs.Trace.{AreExact, Tests, TraceEvent, Campaigned, Granted, Appended, Acked, Restarted, Wrote, Committed, Applied, events_in, has_campaigned, is_elected, is_allowed, are_allowed, same_entry, same_leader, hold_no_config, and_vote, and_append, and_restart, has_kept, has_acked, has_voted, candidate_log_in, leader_log_in, is_config_committed, is_known_committed, is_quorum_of_log, is_prefix, common_prefix, unless, broken_rule, proposal_rule, log_in}
+use Rattle.raft_safety.specs.Inner.CheckerState.{write_rule, config_rule, config_in, no_config_in, append_rule, ack_rule, restart_rule, grant_rule, commit_rule, knows, has_committed, has_kept_by, has_acked_to, config_committed, common_len, kept_from, kept_after, at_most, IsAdded, HasPlace, apply_rule}
 use Rattle.raft_safety.specs.Checker.{HasSeen}
 use Rattle.raft_safety.specs.Inner.Seen.{SeesServer, kept_at, SeesServers, SeesLeader, SeesNoLeader, SeesLeaders, find_server, find_leader}
 use Rattle.raft_safety.proofs.lemmas.RuleLemmas.{first_none, rest_none, first_two}
@@ -1033,15 +1033,34 @@ module _ {T ID D : Type 0} (k : Tests T ID D (Option D)) (exact : AreExact k) wh
 
   -- ---- what is applied
 
+  first_three : (a b d : Bool) (p q r : Rule) (o : Option Rule)
+      → unless a p (unless b q (unless d r o)) ≡ option_or (unless a p (unless b q (unless d r None))) o
+  first_three true true true p q r o = refl
+  first_three true true false p q r o = refl
+  first_three true false d p q r o = refl
+  first_three false b d p q r o = refl
+
   pub apply_right : (es : List (TraceEvent T ID D)) (servers : List (Server T ID D))
-      (leaders : List (Leader T ID D)) (id : ID) (t : T) (c : ID) (n : ℕ) (l : Leader T ID D)
-      → HasSeen k es servers leaders → SeesLeader k es t c l
-      → broken_rule k (Applied id t c n) es
-      ≡ unless (has_acked_to k.same_id l.acked.items id n) NotAcked
+      (leaders : List (Leader T ID D)) (id : ID) (t : T) (c : ID) (n : ℕ) (s : Server T ID D)
+      (l : Leader T ID D) → HasSeen k es servers leaders → SeesServer k (events_in k es id) s
+      → SeesLeader k es t c l
+      → broken_rule k (Applied id t c n) es ≡ option_or (apply_rule (same_entry k) s l n)
       (unless (list_any (knows k.rank (same_entry k) (k.rank t) (take n l.log.items)) leaders) NotCommitted None)
-  apply_right es servers leaders id t c n l seen leads =
-      λ q. unless (leads.acked id n q) NotAcked (unless (known q) NotCommitted None)
+  apply_right es servers leaders id t c n s l seen sees leads =
+      (λ q. unless (leads.elected q) NotElected
+      (unless (nat_le n (length (leads.leader_log q))) NotWritten
+      (unless (in_log q) NotInLog (unless (known q) NotCommitted None))))
+      ∙ first_three l.elected (nat_le n (length l.log.items))
+      (nat_eq (common_len (same_entry k) (take n l.log.items) s.log.items) (length (take n l.log.items)))
+      NotElected NotWritten NotInLog
+      (unless (list_any (knows k.rank (same_entry k) (k.rank t) (take n l.log.items)) leaders) NotCommitted None)
     where
+      in_log : is_prefix k (take n (leader_log_in k es t c)) (log_in k es id)
+          ≡ nat_eq (common_len (same_entry k) (take n l.log.items) s.log.items) (length (take n l.log.items))
+      in_log =
+          (λ q. is_prefix k (take n (leads.leader_log q)) (sees.log q))
+          ∙ is_prefix_by_len k exact (take n l.log.items) s.log.items
+
       known : is_known_committed k (k.rank t) (take n (leader_log_in k es t c)) es
           ≡ list_any (knows k.rank (same_entry k) (k.rank t) (take n l.log.items)) leaders
       known =

@@ -1,36 +1,8 @@
 -- The checker's steps as its code takes them. An element of a list that is read and borrowed has two
 -- names there.
-use Rattle.std.specs.Prelude.{
-  ◌≡◌,
-  ◌+◌,
-  ◌<◌,
-  ◌≤◌,
-  ℕ,
-  Bool,
-  true,
-  false,
-  ◌||◌,
-  ◌&&◌,
-  nat_le,
-  nat_lt,
-  min,
-  max,
-  Option,
-  Some,
-  None,
-  List,
-  [],
-  ◌∷◌,
-  ◌++◌,
-  length,
-  take,
-  drop,
-  map,
-  get_or,
-  set,
-}
+use Rattle.std.specs.Prelude.{◌≡◌, ◌+◌, ◌<◌, ◌≤◌, ℕ, Bool, true, false, ◌||◌, ◌&&◌, nat_le, nat_lt, min, max, Option, Some, None, List, [], ◌∷◌, ◌++◌, length, take, drop, map, get_or, set}
 use Rattle.std.specs.List.{position, IsDistinct, list_any}
-use Rattle.std.specs.Option.{unwrap_or}
+use Rattle.std.specs.Option.{unwrap_or, option_or}
 use Rattle.std.specs.Set.{is_member}
 use Rattle.std.proofs.Common.{refl, sym, ap, ◌∙◌, subst, arith}
 use Rattle.std.proofs.lemmas.Bool.{leb-true}
@@ -39,47 +11,16 @@ use Rattle.std.proofs.lemmas.List.Quantifiers.{position-Some}
 use Rattle.raft_safety.specs.Log.{Entry}
 use Rattle.raft_safety.specs.Configs.{effective_config}
 use Rattle.raft_safety.specs.Trace.{AreExact, Tests, TraceEvent, Campaigned, Granted, Appended, Acked, Restarted, Wrote, Committed, Applied, events_in, same_entry, same_leader, hold_no_config, is_quorum_of_log, unless, broken_rule}
-use Rattle.raft_safety.specs.Inner.CheckerState.{config_in, write_rule, commit_rule, append_rule, ack_rule, restart_rule, grant_rule, knows, has_committed, has_acked_to, config_committed, common_len, kept_from, kept_after, at_most, HasPlace}
+use Rattle.raft_safety.specs.Inner.CheckerState.{config_in, write_rule, commit_rule, append_rule, ack_rule, restart_rule, grant_rule, knows, has_committed, has_acked_to, config_committed, common_len, kept_from, kept_after, at_most, HasPlace, apply_rule}
 use Rattle.raft_safety.specs.Checker.{HasSeen}
 use Rattle.raft_safety.specs.Inner.Seen.{SeesServer, SeesLeader}
-use Rattle.raft_safety.specs.declared.rule.Rule.TheVariants.{
-  NoCampaign,
-  NotElected,
-  NotAcked,
-  NoQuorum,
-  NotCommitted,
-  EarlierTerm,
-  CountedEarly,
-  NotWritten,
-}
+use Rattle.raft_safety.specs.declared.rule.Rule.TheVariants.{NoCampaign, NotElected, NoQuorum, NotCommitted, EarlierTerm, CountedEarly, NotWritten}
 use Rattle.raft_safety.specs.declared.rule.Rule.{Rule}
 use Rattle.raft_safety.specs.declared.checker.server.Server.{Server}
 use Rattle.raft_safety.specs.declared.checker.leader.Leader.{Leader}
 use Rattle.raft_safety.proofs.lemmas.CheckedServerLemmas.{see_set}
 use Rattle.raft_safety.proofs.lemmas.CheckedLeaderLemmas.{any_set_or, see_leader_set}
-use Rattle.raft_safety.proofs.lemmas.CheckerLemmas.{
-  write_right,
-  write_seen,
-  commit_right,
-  commit_first,
-  commit_then,
-  commit_seen,
-  apply_right,
-  apply_seen,
-  no_leader,
-  LeaderIs,
-  server_seen,
-  leader_seen,
-  leader_place,
-  see_place,
-  restart_seen,
-  append_first,
-  append_seen,
-  ack_seen,
-  grant_seen,
-  late_vote_seen,
-  campaign_seen,
-}
+use Rattle.raft_safety.proofs.lemmas.CheckerLemmas.{write_right, write_seen, commit_right, commit_first, commit_then, commit_seen, apply_right, apply_seen, no_leader, LeaderIs, server_seen, leader_seen, leader_place, see_place, restart_seen, append_first, append_seen, ack_seen, grant_seen, late_vote_seen, campaign_seen}
 
 pub same_item : {X : Type 0} (xs : List X) (i : ℕ) (x y : X) → i < length xs → x ≡ get_or xs i x
     → y ≡ get_or xs i y → x ≡ y
@@ -370,9 +311,9 @@ module _ {T ID D : Type 0} (k : Tests T ID D (Option D)) (exact : AreExact k) wh
       (servers : List (Server T ID D)) (leaders : List (Leader T ID D))
       → position (λ (x : Leader T ID D). same_leader k x.term x.id t c) leaders ≡ None
       → HasSeen k es servers leaders
-      → (broken_rule k (Applied id t c n) es ≡ Some NotAcked) × HasSeen k es servers leaders
+      → (broken_rule k (Applied id t c n) es ≡ Some NotElected) × HasSeen k es servers leaders
   apply_unled es id t c n servers leaders absent seen =
-      let none = no_leader k exact es t c servers leaders absent seen in (rw (none.2 id n) refl, seen)
+      let none = no_leader k exact es t c servers leaders absent seen in (rw none.0 refl, seen)
 
   pub write_refused : (es : List (TraceEvent T ID D)) (t : T) (c : ID) (e : Entry T D)
       (servers : List (Server T ID D)) (leaders : List (Leader T ID D)) (j : ℕ) (l : Leader T ID D)
@@ -501,66 +442,88 @@ module _ {T ID D : Type 0} (k : Tests T ID D (Option D)) (exact : AreExact k) wh
       commit_seen k exact es t c n m servers leaders j l3 lnew at_j is3 seen
       (tested ∙ ap (λ b. unless b NoQuorum None) enough) short acked same
 
-  pub apply_refused : (es : List (TraceEvent T ID D)) (servers : List (Server T ID D))
-      (leaders : List (Leader T ID D)) (id : ID) (t : T) (c : ID) (n j : ℕ) (l l2 : Leader T ID D)
-      (acked known : Bool)
+  -- what is seen of the server and of the leader of an event that applies entries
+  apply_test : (es : List (TraceEvent T ID D)) (id : ID) (t : T) (c : ID) (n : ℕ)
+      (old servers : List (Server T ID D)) (leaders : List (Leader T ID D)) (i j : ℕ)
+      (s : Server T ID D) (l : Leader T ID D)
+      → HasPlace (λ (x : Server T ID D). k.same_id x.id id) id old servers i → s ≡ get_or servers i s
       → position (λ (x : Leader T ID D). same_leader k x.term x.id t c) leaders ≡ Some j
-      → l ≡ get_or leaders j l → l2 ≡ get_or leaders j l2 → HasSeen k es servers leaders
-      → acked ≡ has_acked_to k.same_id l.acked.items id n
-      → known ≡ list_any (knows k.rank (same_entry k) (k.rank t) (take n l2.log.items)) leaders
-      → broken_rule k (Applied id t c n) es
-      ≡ unless acked NotAcked (unless known NotCommitted None)
-  apply_refused es servers leaders id t c n j l l2 acked known at_j is is2 seen is_acked is_known =
-      let within : j < length leaders =
-      place_within (λ (x : Leader T ID D). same_leader k x.term x.id t c) leaders j l at_j in
-      let q : l2 ≡ l = same_item leaders j l2 l within is2 is in
-      let at_l : SeesLeader k es t c l = rw is (leader_seen k exact es leaders t c j l seen.see_leaders at_j) in
-      let known_l : known ≡ list_any (knows k.rank (same_entry k) (k.rank t) (take n l.log.items)) leaders =
-      is_known ∙ ap (λ (x : Leader T ID D). list_any (knows k.rank (same_entry k) (k.rank t) (take n x.log.items)) leaders) q in
-      apply_right k exact es servers leaders id t c n l seen at_l
-      ∙ (λ i. unless (sym is_acked i) NotAcked (unless (sym known_l i) NotCommitted None))
+      → l ≡ get_or leaders j l → HasSeen k es old leaders
+      → (broken_rule k (Applied id t c n) es ≡ option_or (apply_rule (same_entry k) s l n)
+      (unless (list_any (knows k.rank (same_entry k) (k.rank t) (take n l.log.items)) leaders) NotCommitted None))
+      × HasSeen k es servers leaders
+  apply_test es id t c n old servers leaders i j s l place is at_j is_l seen =
+      let now : HasSeen k es servers leaders = see_place k exact es id old servers i leaders place seen in
+      let at_s : SeesServer k (events_in k es id) s =
+      rw is (server_seen k exact es servers id i s now.see_servers place.0) in
+      let at_l : SeesLeader k es t c l = rw is_l (leader_seen k exact es leaders t c j l now.see_leaders at_j) in
+      (apply_right k exact es servers leaders id t c n s l now at_s at_l, now)
 
-  pub apply_unacked : (es : List (TraceEvent T ID D)) (servers : List (Server T ID D))
-      (leaders : List (Leader T ID D)) (id : ID) (t : T) (c : ID) (n j : ℕ) (l : Leader T ID D)
-      (acked : Bool)
+  pub apply_refused : (es : List (TraceEvent T ID D)) (id : ID) (t : T) (c : ID) (n : ℕ)
+      (old servers : List (Server T ID D)) (leaders : List (Leader T ID D)) (i j : ℕ)
+      (s : Server T ID D) (l : Leader T ID D) (r : Rule)
+      → HasPlace (λ (x : Server T ID D). k.same_id x.id id) id old servers i → s ≡ get_or servers i s
       → position (λ (x : Leader T ID D). same_leader k x.term x.id t c) leaders ≡ Some j
-      → l ≡ get_or leaders j l → HasSeen k es servers leaders
-      → acked ≡ has_acked_to k.same_id l.acked.items id n → acked ≡ false
-      → (broken_rule k (Applied id t c n) es ≡ Some NotAcked) × HasSeen k es servers leaders
-  apply_unacked es servers leaders id t c n j l acked at_j is seen is_acked none =
-      let at_l : SeesLeader k es t c l = rw is (leader_seen k exact es leaders t c j l seen.see_leaders at_j) in (
-        apply_right k exact es servers leaders id t c n l seen at_l
-            ∙ ap (λ b. unless b NotAcked
+      → l ≡ get_or leaders j l → HasSeen k es old leaders → apply_rule (same_entry k) s l n ≡ Some r
+      → (broken_rule k (Applied id t c n) es ≡ Some r) × HasSeen k es servers leaders
+  apply_refused es id t c n old servers leaders i j s l r place is at_j is_l seen broken =
+      let test = apply_test es id t c n old servers leaders i j s l place is at_j is_l seen in (
+        test.0 ∙ ap (λ (o : Option Rule). option_or o
             (unless (list_any (knows k.rank (same_entry k) (k.rank t) (take n l.log.items)) leaders) NotCommitted None))
-            (sym is_acked ∙ none),
-        seen,
+            broken,
+        test.1,
       )
 
-  pub apply_uncommitted : (es : List (TraceEvent T ID D)) (servers : List (Server T ID D))
-      (leaders : List (Leader T ID D)) (id : ID) (t : T) (c : ID) (n j : ℕ) (l l2 : Leader T ID D)
-      (acked known : Bool)
+  -- the first entries are read of the leader a second time
+  apply_known : (es : List (TraceEvent T ID D)) (id : ID) (t : T) (c : ID) (n : ℕ)
+      (old servers : List (Server T ID D)) (leaders : List (Leader T ID D)) (i j : ℕ)
+      (s : Server T ID D) (l l2 : Leader T ID D) (known : Bool)
+      → HasPlace (λ (x : Server T ID D). k.same_id x.id id) id old servers i → s ≡ get_or servers i s
       → position (λ (x : Leader T ID D). same_leader k x.term x.id t c) leaders ≡ Some j
-      → l ≡ get_or leaders j l → l2 ≡ get_or leaders j l2 → HasSeen k es servers leaders
-      → acked ≡ has_acked_to k.same_id l.acked.items id n
+      → l ≡ get_or leaders j l → l2 ≡ get_or leaders j l2 → HasSeen k es old leaders
+      → apply_rule (same_entry k) s l n ≡ None
       → known ≡ list_any (knows k.rank (same_entry k) (k.rank t) (take n l2.log.items)) leaders
-      → acked ≡ true → known ≡ false
-      → (broken_rule k (Applied id t c n) es ≡ Some NotCommitted) × HasSeen k es servers leaders
-  apply_uncommitted es servers leaders id t c n j l l2 acked known at_j is is2 seen is_acked is_known yes_acked none = (
-    apply_refused es servers leaders id t c n j l l2 acked known at_j is is2 seen is_acked is_known
-        ∙ (λ i. unless (yes_acked i) NotAcked (unless (none i) NotCommitted None)),
-    seen,
-  )
+      → (broken_rule k (Applied id t c n) es ≡ unless known NotCommitted None)
+      × HasSeen k es servers leaders
+  apply_known es id t c n old servers leaders i j s l l2 known place is at_j is_l is_l2 seen free is_known =
+      let test = apply_test es id t c n old servers leaders i j s l place is at_j is_l seen in
+      let q : l2 ≡ l =
+      same_item leaders j l2 l (place_within (λ (x : Leader T ID D). same_leader k x.term x.id t c) leaders j l at_j)
+      is_l2 is_l in
+      let known_l : known ≡ list_any (knows k.rank (same_entry k) (k.rank t) (take n l.log.items)) leaders =
+      is_known ∙ ap (λ (x : Leader T ID D). list_any (knows k.rank (same_entry k) (k.rank t) (take n x.log.items)) leaders) q in (
+        test.0
+            ∙ ap (λ (o : Option Rule). option_or o
+            (unless (list_any (knows k.rank (same_entry k) (k.rank t) (take n l.log.items)) leaders) NotCommitted None))
+            free
+            ∙ ap (λ b. unless b NotCommitted None) (sym known_l),
+        test.1,
+      )
 
-  pub apply_done : (es : List (TraceEvent T ID D)) (servers : List (Server T ID D))
-      (leaders : List (Leader T ID D)) (id : ID) (t : T) (c : ID) (n j : ℕ) (l l2 : Leader T ID D)
-      (acked known : Bool)
+  pub apply_uncommitted : (es : List (TraceEvent T ID D)) (id : ID) (t : T) (c : ID) (n : ℕ)
+      (old servers : List (Server T ID D)) (leaders : List (Leader T ID D)) (i j : ℕ)
+      (s : Server T ID D) (l l2 : Leader T ID D) (known : Bool)
+      → HasPlace (λ (x : Server T ID D). k.same_id x.id id) id old servers i → s ≡ get_or servers i s
       → position (λ (x : Leader T ID D). same_leader k x.term x.id t c) leaders ≡ Some j
-      → l ≡ get_or leaders j l → l2 ≡ get_or leaders j l2 → HasSeen k es servers leaders
-      → acked ≡ has_acked_to k.same_id l.acked.items id n
+      → l ≡ get_or leaders j l → l2 ≡ get_or leaders j l2 → HasSeen k es old leaders
+      → apply_rule (same_entry k) s l n ≡ None
       → known ≡ list_any (knows k.rank (same_entry k) (k.rank t) (take n l2.log.items)) leaders
-      → acked ≡ true → known ≡ true
+      → known ≡ false
+      → (broken_rule k (Applied id t c n) es ≡ Some NotCommitted) × HasSeen k es servers leaders
+  apply_uncommitted es id t c n old servers leaders i j s l l2 known place is at_j is_l is_l2 seen free is_known none =
+      let test = apply_known es id t c n old servers leaders i j s l l2 known place is at_j is_l is_l2 seen free is_known in
+      (test.0 ∙ ap (λ b. unless b NotCommitted None) none, test.1)
+
+  pub apply_done : (es : List (TraceEvent T ID D)) (id : ID) (t : T) (c : ID) (n : ℕ)
+      (old servers : List (Server T ID D)) (leaders : List (Leader T ID D)) (i j : ℕ)
+      (s : Server T ID D) (l l2 : Leader T ID D) (known : Bool)
+      → HasPlace (λ (x : Server T ID D). k.same_id x.id id) id old servers i → s ≡ get_or servers i s
+      → position (λ (x : Leader T ID D). same_leader k x.term x.id t c) leaders ≡ Some j
+      → l ≡ get_or leaders j l → l2 ≡ get_or leaders j l2 → HasSeen k es old leaders
+      → apply_rule (same_entry k) s l n ≡ None
+      → known ≡ list_any (knows k.rank (same_entry k) (k.rank t) (take n l2.log.items)) leaders
+      → known ≡ true
       → (broken_rule k (Applied id t c n) es ≡ None) × HasSeen k (Applied id t c n ∷ es) servers leaders
-  apply_done es servers leaders id t c n j l l2 acked known at_j is is2 seen is_acked is_known yes_acked yes_known =
-      apply_seen k exact es servers leaders id t c n seen
-      (apply_refused es servers leaders id t c n j l l2 acked known at_j is is2 seen is_acked is_known
-      ∙ (λ i. unless (yes_acked i) NotAcked (unless (yes_known i) NotCommitted None)))
+  apply_done es id t c n old servers leaders i j s l l2 known place is at_j is_l is_l2 seen free is_known found =
+      let test = apply_known es id t c n old servers leaders i j s l l2 known place is at_j is_l is_l2 seen free is_known in
+      apply_seen k exact es servers leaders id t c n test.1 (test.0 ∙ ap (λ b. unless b NotCommitted None) found)

@@ -15,7 +15,7 @@ use Rattle.raft_safety.specs.Execution.{FactsAreStable, Init, IsExecution, Leade
 use Rattle.raft_safety.specs.Trace.{earlier}
 use Rattle.raft_safety.proofs.lemmas.PrefixLemmas.{append-nil, prefix_itself, prefix_trans, prefix_length, prefix_within, last_added}
 use Rattle.raft_safety.proofs.lemmas.ServerLemmas.{IsFrom, had_now, log_from, last_of}
-use Rattle.raft_safety.proofs.lemmas.ApplyLemmas.{acked_elected, state_machines_agree}
+use Rattle.raft_safety.proofs.lemmas.ApplyLemmas.{state_machines_agree}
 use Rattle.raft_safety.proofs.lemmas.ChangeLemmas.{changing_is_safe}
 
 module _ {T D : Type 0} where
@@ -456,15 +456,17 @@ module _ {T ID D M : Type 0} (rank : T → ℕ) (config_of : D → Option M) (in
         → FactsAreStable rank config_of initial quorum_of g last → (s : ID) (i : ℕ)
         → MayApply rank Q g (g.events s) i → MayApply rank Q last (g.events s) i
     may_apply_still g last follows facts s i x =
-        let o = acked_elected rank Q g s x.term x.leader i (g.events s) (follows.servers s) x.acked in
+        let still = facts.elected x.term x.leader x.elected in
         let here = take_of_prefix i (g.leader_log x.term x.leader) (last.leader_log x.term x.leader)
-        (facts.elected x.term x.leader o.elected).2 o.long in
+        still.2 x.written in
         let there = facts.committed x.known.in_term x.known.by_leader x.known.committed_to
         x.known.counted_at x.known.committed in
         record {
           term = x.term;
           leader = x.leader;
-          acked = x.acked;
+          elected = still.0;
+          written = omega (arith, x.written, prefix_length still.2);
+          in_log = rw here x.in_log;
           known = record {
             in_term = x.known.in_term;
             by_leader = x.known.by_leader;

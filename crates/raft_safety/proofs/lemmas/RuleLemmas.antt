@@ -1,7 +1,7 @@
 -- What an event that breaks no rule passes, as conjunctions of tests.
 use Rattle.std.specs.Prelude.{◌≡◌, ◌+◌, ℕ, Bool, true, false, not, ◌&&◌, ◌||◌, nat_lt, nat_le, Option, Some, None, is_none, List, ◌++◌, length, take}
 use Rattle.std.proofs.Common.{refl, ap, ◌∙◌}
-use Rattle.raft_safety.specs.declared.rule.Rule.TheVariants.{NoCampaign, OwnCandidate, CandidateBehind, OtherTerm, ApartConfigs, ApartQuorums, EarlyConfig, EarlierTerm, CountedEarly, NoQuorum, NotAcked, NotCommitted, CampaignedTwice, NotElected, PassedTerm, MissingEntries, DropsMatching, ForeignEntries, TermNotReached, NotWritten, NotKept, LostAcked}
+use Rattle.raft_safety.specs.declared.rule.Rule.TheVariants.{NoCampaign, OwnCandidate, CandidateBehind, OtherTerm, ApartConfigs, ApartQuorums, EarlyConfig, EarlierTerm, CountedEarly, NoQuorum, NotInLog, NotCommitted, CampaignedTwice, NotElected, PassedTerm, MissingEntries, DropsMatching, ForeignEntries, TermNotReached, NotWritten, NotKept, LostAcked}
 use Rattle.raft_safety.specs.Configs.{effective_config}
 use Rattle.raft_safety.specs.Trace.{Tests, TraceEvent, Campaigned, Granted, Appended, Acked, Restarted, Wrote, Committed, Applied, durable, term_in, voted_in, log_in, is_up_to_date, events_in, has_campaigned, is_elected, is_allowed, has_kept, has_acked, candidate_log_in, leader_log_in, is_config_committed, is_known_committed, is_quorum_of_log, is_prefix, common_prefix, unless, proposal_rule}
 use Rattle.raft_safety.specs.declared.rule.Rule.{Rule}
@@ -106,8 +106,9 @@ module _ {T ID D M : Type 0} (k : Tests T ID D M) where
       is_elected k es t c && (k.same_term e.term t && may_propose es t c (k.config_of e.content))
   passes (Committed c t n m) es = is_committed es t c n m
   passes (Applied s t c n) es =
-      has_acked k t c n (events_in k es s)
-      && is_known_committed k (k.rank t) (take n (leader_log_in k es t c)) es
+      is_elected k es t c && (nat_le n (length (leader_log_in k es t c))
+      && (is_prefix k (take n (leader_log_in k es t c)) (log_in k es s)
+      && is_known_committed k (k.rank t) (take n (leader_log_in k es t c)) es))
 
   proposal_tests : (es : List (TraceEvent T ID D)) (t : T) (c : ID) (o : Option M)
       → is_none (proposal_rule k es t c o) ≡ may_propose es t c o
@@ -163,5 +164,7 @@ module _ {T ID D M : Type 0} (k : Tests T ID D M) where
       (is_quorum_of_log k (take m (leader_log_in k es t c)) (λ v. has_acked k t c n (events_in k es v)))
       NotElected EarlierTerm CountedEarly NotWritten NoQuorum
   allowed_by_rules (Applied s t c n) es =
-      rules_2 (has_acked k t c n (events_in k es s))
-      (is_known_committed k (k.rank t) (take n (leader_log_in k es t c)) es) NotAcked NotCommitted
+      rules_4 (is_elected k es t c) (nat_le n (length (leader_log_in k es t c)))
+      (is_prefix k (take n (leader_log_in k es t c)) (log_in k es s))
+      (is_known_committed k (k.rank t) (take n (leader_log_in k es t c)) es) NotElected NotWritten NotInLog
+      NotCommitted

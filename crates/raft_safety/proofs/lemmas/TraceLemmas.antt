@@ -604,14 +604,21 @@ module _ {T ID D M : Type 0} (k : Tests T ID D M) (exact : AreExact k) where
       → passes k (Applied s t c n) es ≡ true
       → MayApply k.rank Q (history k es) (events_in k es s) n
   may_apply es ok run s t c n e =
-      let a : Bool = has_acked k t c n (events_in k es s) in
-      let b : Bool = is_known_committed k (k.rank t) (take n (leader_log_in k es t c)) es in
+      let a : Bool = is_elected k es t c in
+      let b : Bool = nat_le n (length (leader_log_in k es t c)) in
+      let d : Bool = is_prefix k (take n (leader_log_in k es t c)) (log_in k es s) in
+      let f : Bool = is_known_committed k (k.rank t) (take n (leader_log_in k es t c)) es in
+      let e1 = second_so a (b && (d && f)) e in
+      let e2 = second_so b (d && f) e1 in
       let x : WasKnown es (k.rank t) (take n (leader_log_in k es t c)) =
-      was_known es ok run (k.rank t) (take n (leader_log_in k es t c)) (second_so a b e) in
+      was_known es ok run (k.rank t) (take n (leader_log_in k es t c)) (second_so d f e2) in
       record {
         term = t;
         leader = c;
-        acked = acked_right k exact t c n (events_in k es s) (first_so a b e);
+        elected = elected_right es t c (first_so a (b && (d && f)) e);
+        written = leb-true n (length (leader_log_in k es t c)) (first_so b (d && f) e1);
+        in_log =
+            prefix_right k exact (take n (leader_log_in k es t c)) (log_in k es s) (first_so d f e2);
         known = record {
           in_term = x.in_term;
           by_leader = x.by_leader;

@@ -7,7 +7,7 @@ use Rattle.raft_safety.specs.declared.checker.server.Server.{Server}
 use Rattle.raft_safety.specs.declared.checker.leader.Leader.{Leader}
 use Rattle.raft_safety.specs.Trace.{unless}
 use Rattle.raft_safety.specs.declared.rule.Rule.{Rule}
-use Rattle.raft_safety.specs.declared.rule.Rule.TheVariants.{PassedTerm, OwnCandidate, CandidateBehind, NotElected, MissingEntries, DropsMatching, ForeignEntries, TermNotReached, NotWritten, NotKept, LostAcked, OtherTerm, ApartConfigs, ApartQuorums, EarlyConfig, EarlierTerm, CountedEarly}
+use Rattle.raft_safety.specs.declared.rule.Rule.TheVariants.{PassedTerm, OwnCandidate, CandidateBehind, NotElected, MissingEntries, DropsMatching, ForeignEntries, TermNotReached, NotWritten, NotKept, LostAcked, OtherTerm, ApartConfigs, ApartQuorums, EarlyConfig, EarlierTerm, CountedEarly, NotInLog}
 use Rattle.raft_safety.specs.declared.checker.server.Kept.{Kept}
 use Rattle.raft_safety.specs.declared.checker.leader.Acked.{Acked}
 
@@ -105,6 +105,16 @@ module _ {T N D : Type 0} where
       (unless (nat_le r s.term) TermNotReached
       (unless (nat_le n (length l.log.items)) NotWritten
       (unless (has_kept_by same s r (take n l.log.items)) NotKept None)))
+
+  -- the first rule that a server breaks if it applies the first n entries of its leader's log, besides
+  -- that they are committed
+  abbrev pub apply_rule : (Entry T D → Entry T D → Bool) → Server T N D → Leader T N D → ℕ
+      → Option Rule
+  apply_rule same s l n =
+      unless l.elected NotElected
+      (unless (nat_le n (length l.log.items)) NotWritten
+      (unless (nat_eq (common_len same (take n l.log.items) s.log.items) (length (take n l.log.items))) NotInLog
+      None))
 
   -- the first rule that a server's restart with its first n entries breaks
   abbrev pub restart_rule : Server T N D → ℕ → Option Rule

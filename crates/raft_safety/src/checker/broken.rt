@@ -1,6 +1,6 @@
 //! Which rule an event breaks.
 ghost use Rattle.std.specs.Prelude.{◌≡◌};
-ghost use Rattle.raft_safety.specs.Inner.CheckerState.{ack_rule, append_rule, commit_rule, config_rule, grant_rule, knows, restart_rule, same_entry_by, up_to_date_by, write_rule};
+ghost use Rattle.raft_safety.specs.Inner.CheckerState.{ack_rule, append_rule, commit_rule, config_rule, grant_rule, knows, restart_rule, same_entry_by, up_to_date_by, write_rule, apply_rule};
 
 use super::configs::Configs;
 use super::leader::Leader;
@@ -98,6 +98,27 @@ pub fn ack_rule<T: Term, N: Copy + Eq, D: Copy + Eq>(
     }
     if !server.has_kept(rank, &leader.log[..len]) {
         return Some(Rule::NotKept);
+    }
+    None
+}
+
+/// Returns the rule that a server breaks by applying entries, if there is one besides that they are
+/// committed.
+pub fn apply_rule<T: Term, N: Copy + Eq, D: Copy + Eq>(
+    server: &Server<T, N, D>,
+    leader: &Leader<T, N, D>,
+    len: usize,
+) -> Option<Rule>
+    ensures { result ≡ apply_rule (same_entry_by T.eq D.eq) server.now leader.now len }
+{
+    if !leader.elected {
+        return Some(Rule::NotElected);
+    }
+    if leader.log.len() < len {
+        return Some(Rule::NotWritten);
+    }
+    if !begins_with(&server.log, &leader.log[..len]) {
+        return Some(Rule::NotInLog);
     }
     None
 }

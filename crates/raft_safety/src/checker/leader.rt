@@ -1,5 +1,5 @@
 //! What the checker keeps of a candidate or leader.
-ghost use Rattle.std.specs.Prelude.{◌≡◌, ◌++◌, ◌∷◌, ◌&&◌, ◌||◌, ℕ, true, [], IfOk, OnOk, OnErr, Some, None, length, max, nat_le, take};
+ghost use Rattle.std.specs.Prelude.{◌≡◌, ◌++◌, ◌∷◌, ◌&&◌, ◌||◌, ℕ, [], IfOk, OnOk, OnErr, Some, None, length, max, nat_le, take};
 ghost use Rattle.std.specs.List.{IsDistinct, position};
 ghost use Rattle.std.specs.Option.{unwrap_or};
 ghost use Rattle.std.specs.Set.{is_member};
@@ -152,18 +152,6 @@ impl<T: Term, N: Copy + Eq, D: Copy + Eq> Leader<T, N, D> {
             None => self.acked.push(Acked { server, len })?,
         }
         Ok(())
-    }
-
-    /// Whether a server has acknowledged so many first entries.
-    pub fn has_acked(&self, server: N, len: usize) -> bool
-        ensures { result ≡ has_acked_to N.eq self.now.acked.items server len }
-    {
-        for acked in &self.acked {
-            if acked.server == server && len <= acked.len {
-                return true;
-            }
-        }
-        false
     }
 
     /// Returns the servers that have acknowledged so many first entries, each once.

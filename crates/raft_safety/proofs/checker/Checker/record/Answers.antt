@@ -22,4 +22,4 @@ pub returns-in-Committed-clause-answer : goal.returns-in-Committed-clause-answer
 returns-in-Committed-clause-answer g c = rw c.in-Committed.is c.committed.ensures.answer
 
 pub returns-in-Applied-clause-answer : goal.returns-in-Applied-clause-answer
-returns-in-Applied-clause-answer g c = rw c.in-Applied.is c.applied.ensures
+returns-in-Applied-clause-answer g c = rw c.in-Applied.is c.applied.ensures.answer
