@@ -97,7 +97,8 @@ pub fn appended(
 }
 
 /// Quorums of servers 0, 1 and 2; content 100 holds the joint membership with 2, 3 and 4, and
-/// content 101 the membership of these alone.
+/// content 101 the membership of these alone. Contents 102 and 103 hold the configs of servers 0 to
+/// 3 and of servers 0 to 4.
 pub fn three(alloc: Global) -> Result<Memberships<u64, u64>, AllocError> {
     Ok(Memberships {
         initial: vec![in alloc; vec![in alloc; 0, 1, 2]?]?,
@@ -107,6 +108,8 @@ pub fn three(alloc: Global) -> Result<Memberships<u64, u64>, AllocError> {
                 vec![in alloc; vec![in alloc; 0, 1, 2]?, vec![in alloc; 2, 3, 4]?]?
             ),
             (101, vec![in alloc; vec![in alloc; 2, 3, 4]?]?),
+            (102, vec![in alloc; vec![in alloc; 0, 1, 2, 3]?]?),
+            (103, vec![in alloc; vec![in alloc; 0, 1, 2, 3, 4]?]?),
         ]?,
     })
 }

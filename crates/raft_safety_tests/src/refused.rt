@@ -61,11 +61,13 @@ fn refuses_each_event_for_its_rule(rt: HostRuntime) -> Result<(), Fail> {
         (wrote(0, 1, (2, 12)), Rule::OtherTerm),
         (wrote(0, 1, (1, 100)), Rule::EarlyConfig),
         (wrote(0, 1, (1, 101)), Rule::ApartConfigs),
+        (wrote(0, 1, (1, 102)), Rule::EarlyConfig),
+        (wrote(0, 1, (1, 103)), Rule::ApartConfigs),
         (committed(0, 1, 0, 1), Rule::EarlierTerm),
         (committed(0, 1, 1, 0), Rule::CountedEarly),
         (committed(0, 1, 1, 2), Rule::NotWritten),
         (committed(0, 1, 1, 1), Rule::NoQuorum),
-        (applied(1, 1, 0, 1), Rule::NotAcked),
+        (applied(1, 1, 0, 1), Rule::NotInLog),
         (applied(0, 1, 0, 1), Rule::NotCommitted),
     ] {
         assert!(rt; is_refused(alloc, event, rule)?, "{rule}");
@@ -85,6 +87,27 @@ fn accepts_a_commit_and_a_proposed_membership(rt: HostRuntime) -> Result<(), Fai
         wrote(0, 1, (1, 100)),
         restarted(0, 1),
         campaigned(2, 3),
+    ])?;
+    check(alloc, three(alloc)?, &events)?;
+    Ok(())
+}
+
+#[test]
+fn accepts_a_late_vote_and_a_config_with_one_server_more(rt: HostRuntime) -> Result<(), Fail> {
+    let alloc = rt.alloc();
+    let heartbeat = kept(alloc, (3, 1, 0), 0);
+    let taken = appended(alloc, (3, 1, 0), 0, (1, 10))?;
+    let also_taken = appended(alloc, (1, 1, 0), 0, (1, 10))?;
+    let mut events = led(alloc)?;
+    events.extend([
+        heartbeat,
+        granted(3, 1, 0),
+        taken,
+        also_taken,
+        acked(1, 1, 0, 1),
+        committed(0, 1, 1, 1),
+        applied(3, 1, 0, 1),
+        wrote(0, 1, (1, 102)),
     ])?;
     check(alloc, three(alloc)?, &events)?;
     Ok(())
