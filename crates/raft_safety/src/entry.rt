@@ -7,7 +7,7 @@ use std::marker::Model;
 ///
 /// A hash of the command is enough as the content of an entry, if equal commands at one index need
 /// not be told apart.
-#[derive(Clone, Copy)]
+#[derive(Debug, Clone, Copy)]
 pub struct Entry<T, D> {
     /// The term of the leader that wrote the entry.
     pub term: T,

@@ -6,7 +6,7 @@ use crate::entry::Entry;
 ///
 /// An event is recorded after the events that it depends on. For example, a vote is recorded after
 /// the campaign of its candidate, and a commit after the acknowledgements that it counts.
-#[derive(Drop)]
+#[derive(Debug, Drop)]
 pub enum Event<T, N, D> {
     /// A server starts a campaign in a term, with its log as it is, and votes for itself.
     Campaigned {

@@ -13,7 +13,7 @@ use crate::term::Term;
 use raft_members::quorum::{Coherent, Joint, QuorumSet};
 
 /// Memberships, each a list of configs, and a config is a list of voters.
-#[derive(Drop)]
+#[derive(Debug, Drop)]
 pub struct Memberships<N, D> {
     /// The initial membership.
     pub initial: Vec<Vec<N>>,
