@@ -4,7 +4,7 @@
 # Usage: tools/programs.sh [statuses | seeds]
 #
 # `statuses` compares the exit status, the output and the standard error of `raft-state`, also for odd
-# input. `seeds` runs the simulated cluster: 2,000 seeds and two long runs, each of which must be safe and
+# input and with words on the command line. `seeds` runs the simulated cluster: 2,000 seeds and two long runs, each of which must be safe and
 # converge, and 300 seeds with each planted fault, which some must show. It also runs 50 seeds over
 # openraft's default leader ids, by a copy of the sources that is not proved. Without a word the tool does
 # both.
@@ -37,35 +37,60 @@ compare() {
 }
 
 # `timeout` ends a run with status 124.
-run() { timeout 60 $crate/out/raft_script; }
-run_into_full_device() { run > /dev/full; }
+run() { timeout 60 $crate/out/raft_script "$@"; }
+run_into_full_device() { run "$@" > /dev/full; }
 run_into_closed_pipe() { run | head -n 1; }
+usage_of() { run "$@" | head -n 1; }
 begin() { printf 'init 0 1 -\nupdate 1 5\n'; }
 # Ten megabytes of a piece, over and over.
 ten_megabytes() { yes "$1" | tr -d '\n' | head -c 10000000; }
+# Forty bytes of a long word, as a reason shows them: a piece, over and over. The piece `\x00` is one byte.
+cut_word() {
+    local piece=$1 shown="" bytes=${#1}
+    [[ $piece == '\x'* ]] && bytes=1
+    for _ in $(seq $((40 / bytes))); do shown+=$piece; done
+    printf '`%s..`' "$shown"
+}
 
 statuses() {
     compare "the end of input" 0 "granted 5" "" run < <(begin)
     compare "a change of members" 0 "$(cat $crate/change.stdout)" "" run < $crate/change.stdin
     compare "no input" 0 "" "" run < /dev/null
     compare "no line feed" 0 "granted 5" "" run < <(printf 'init 0 1 -\nupdate 1 5')
-    compare "the end inside a word" 2 $'granted 5\nbad line 3' "" run < <(begin; printf 'upd')
-    compare "a bad line" 2 $'granted 5\nbad line 3' "" run < <(begin; printf 'x\nupdate 1 6\n')
-    compare "a long number" 2 $'granted 5\nbad line 3' "" run \
+    compare "the end inside a word" 2 $'granted 5\nbad line 3' "line 3: \`upd\` is no command" \
+        run < <(begin; printf 'upd')
+    compare "a bad line" 2 $'granted 5\nbad line 3' "line 3: \`x\` is no command" \
+        run < <(begin; printf 'x\nupdate 1 6\n')
+    compare "a long number" 2 $'granted 5\nbad line 3' "line 3: $(cut_word 9) is no number" run \
         < <(begin; printf 'update 1 '; ten_megabytes 9; printf '\nupdate 1 6\n')
-    compare "a long line of digits" 2 "bad line 1" "" run < <(ten_megabytes 1234567890)
+    compare "a long line of digits" 2 "bad line 1" "line 1: $(cut_word 1234567890) is no command" \
+        run < <(ten_megabytes 1234567890)
     compare "a long list" 0 "granted 5" "" run \
         < <(printf 'init 0 '; ten_megabytes 1,; printf '1 -\nupdate 1 5\n')
-    compare "zero bytes" 2 "bad line 1" "" run < <(head -c 10000000 /dev/zero)
-    compare "zero bytes after a reply" 2 $'granted 5\nbad line 3' "" run \
-        < <(begin; head -c 10000000 /dev/zero)
+    compare "zero bytes" 2 "bad line 1" "line 1: $(cut_word "\\x00") is no command" \
+        run < <(head -c 10000000 /dev/zero)
+    compare "zero bytes after a reply" 2 $'granted 5\nbad line 3' "line 3: $(cut_word "\\x00") is no command" \
+        run < <(begin; head -c 10000000 /dev/zero)
     compare "empty lines" 0 "granted 5" "" run < <(yes '' | head -n 100000; begin)
-    compare "a bad line after empty lines" 2 "bad line 100001" "" run \
-        < <(yes '' | head -n 100000; printf 'x\n')
+    compare "a bad line after empty lines" 2 "bad line 100001" "line 100001: \`x\` is no command" \
+        run < <(yes '' | head -n 100000; printf 'x\n')
+    compare "a step before any init" 2 "bad line 2" "line 2: no \`init\` has succeeded before this step" \
+        run < <(printf '\nupdate 1 5\n')
+    compare "a negative number" 2 "bad line 2" "line 2: \`-1\` is no number" run \
+        < <(printf 'init 0 1 -\nupdate 1 -1\n')
+    compare "a short line" 2 "bad line 1" "line 1: a word is missing at the end" run < <(printf 'init 0 1')
+    compare "a long line" 2 "bad line 1" "line 1: \`2\` is one word too many" run < <(printf 'init 0 1 - 2')
     compare "an error of input" 1 "" "fault" run < /
     compare "an error of output" 1 "" "fault" run_into_full_device < <(begin)
     compare "output closed early, input without end" 1 "granted 5" "fault" run_into_closed_pipe \
         < <(begin; yes 'increase 1 5')
+    for word in --help -h; do
+        compare "$word" 0 "Usage: raft-state < SCRIPT" "" usage_of "$word" < <(begin)
+    done
+    for word in script.txt -v ""; do
+        compare "the word '$word'" 2 "" "$(run --help)" run "$word" < <(begin)
+    done
+    compare "--help into a full device" 1 "" "fault" run_into_full_device --help
 }
 
 # Compares a run of the cluster: whether all clusters have to be healthy or some have to fail, and its words.

@@ -3,6 +3,7 @@
 mod command;
 mod dialogue;
 mod engine;
+mod reason;
 pub(crate) mod reply;
 
 ghost use Rattle.std.specs.Prelude.{◌≡◌, ◌≢◌, IfOk, OnErr};
@@ -30,19 +31,39 @@ pub fn run<R: Read + Drop, W: Write>(alloc: Global, reader: R, writer: &mut W) -
     ensures prints { result ≢ 1 → Prints (W.contents writer.old) (W.contents writer.new)
         (RunsScript (R.remaining reader) result) }
 {
-    match run_lines(alloc, reader, writer) {
+    run_explained(alloc, reader, writer, &mut String::new(alloc))
+}
+
+/// Runs the script of `reader` like `run`. After a line that cannot be run, `reason` has a line that
+/// says why, if there is memory for it.
+pub fn run_explained<R: Read + Drop, W: Write>(
+    alloc: Global,
+    reader: R,
+    writer: &mut W,
+    reason: &mut String,
+) -> u8
+    ensures status { result ≢ 1 → HasStatus (R.remaining reader) result }
+    ensures prints { result ≢ 1 → Prints (W.contents writer.old) (W.contents writer.new)
+        (RunsScript (R.remaining reader) result) }
+{
+    match run_lines(alloc, reader, writer, reason) {
         Ok(status) => status,
         Err(_) => 1,
     }
 }
 
 /// Runs the lines of the reader, and writes their replies. Returns the exit status.
-fn run_lines<R: Read + Drop, W: Write>(alloc: Global, reader: R, writer: &mut W) -> io::Result<u8>
+fn run_lines<R: Read + Drop, W: Write>(
+    alloc: Global,
+    reader: R,
+    writer: &mut W,
+    reason: &mut String,
+) -> io::Result<u8>
     ensures { IfOk result (λ status. Prints (W.contents writer.old) (W.contents writer.new)
         (RunsScript (R.remaining reader) status)) }
 {
     let mut dialogue = Dialogue::new(alloc, reader)?;
-    let ended = answer_lines(alloc, &mut dialogue, writer);
+    let ended = answer_lines(alloc, &mut dialogue, writer, reason);
     // The replies so far are written even after an error.
     write_out(&mut dialogue.replies, writer)?;
     ended
@@ -53,6 +74,7 @@ fn answer_lines<R: Read, W: Write>(
     alloc: Global,
     dialogue: &mut Dialogue<R>,
     writer: &mut W,
+    reason: &mut String,
 ) -> io::Result<u8>
     ensures ok { IfOk result (λ status. Prints
         (contents (W.contents writer.old) dialogue.old)
@@ -69,6 +91,7 @@ fn answer_lines<R: Read, W: Write>(
         let is_last = dialogue.read_line(&mut line, writer)?;
         let replies = &mut dialogue.replies;
         if !answer_line(alloc, &mut engine, passed + 1, &line, replies)? {
+            explain(reason, passed + 1, &line);
             return Ok(2);
         }
         if is_last {
@@ -76,6 +99,13 @@ fn answer_lines<R: Read, W: Write>(
         }
     }
     Ok(1)
+}
+
+/// Says why the line with a number cannot be run, or nothing if there is no memory to say it.
+fn explain(reason: &mut String, number: u64, line: &[u8]) {
+    if reason::push_reason(reason, number, line).is_err() {
+        reason.clear();
+    }
 }
 
 /// Runs the line with a number, or names it if it cannot be run. Returns whether it could be run.

@@ -4,6 +4,7 @@
 mod command;
 mod dialogue;
 mod engine;
+mod reason;
 mod reply;
 mod script;
 mod support;

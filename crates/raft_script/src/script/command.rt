@@ -59,8 +59,8 @@ pub fn parse(alloc: Global, line: &[u8]) -> Result<Option<Command>, LineError>
 
 /// The words of a line, which are separated by spaces.
 #[derive(Drop)]
-struct Words<'a> {
-    rest: &'a [u8],
+pub struct Words<'a> {
+    pub rest: &'a [u8],
 }
 
 impl<'a> Words<'a> {
@@ -68,7 +68,7 @@ impl<'a> Words<'a> {
     ghost use Rattle.raft_script.specs.Inner.Taken.{Lacks, LacksChange, LacksRetain, Takes, TakesChange, left_in};
 
     /// Returns the next word, if there is one.
-    fn next(&mut self) -> Option<&'a [u8]>
+    pub fn next(&mut self) -> Option<&'a [u8]>
         ensures { MatchOption result (left_in self.old ≡ [])
             (λ word. left_in self.old ≡ word.now ∷ left_in self.new) }
     {
@@ -290,8 +290,38 @@ fn list(alloc: Global, word: &[u8]) -> Result<BTreeSet<u64>, LineError>
     Ok(numbers)
 }
 
+/// The kinds of changes.
+const KINDS: [&[u8]; 8] = [
+    b"add-ids",
+    b"add",
+    b"remove",
+    b"replace",
+    b"add-nodes",
+    b"set-nodes",
+    b"remove-nodes",
+    b"replace-nodes",
+];
+
+/// Whether a word is the kind of a change.
+pub fn is_kind(word: &[u8]) -> bool {
+    KINDS.contains(&word)
+}
+
+/// Whether a word is configs.
+pub fn is_configs(word: &[u8]) -> bool {
+    word == b"none".as_slice() || word.split(|byte| *byte == b'/').all(is_list)
+}
+
+/// Whether a word is a list.
+pub fn is_list(word: &[u8]) -> bool {
+    word == b"-".as_slice()
+        || word
+            .split(|byte| *byte == b',')
+            .all(|part| number(part).is_some())
+}
+
 /// Returns the value of decimal digits, if there are any and it fits.
-fn number(word: &[u8]) -> Option<u64>
+pub fn number(word: &[u8]) -> Option<u64>
     ensures { SomeIff result (IsNumber word.now) (digits_value 10 word.now) }
 {
     if word.is_empty() {
