@@ -4,10 +4,10 @@
 # Usage: tools/programs.sh [statuses | seeds]
 #
 # `statuses` compares the exit status, the output and the standard error of `raft-state`, also for odd
-# input and with words on the command line. `seeds` runs the simulated cluster: 2,000 seeds and two long runs, each of which must be safe and
-# converge, and 300 seeds with each planted fault, which some must show. It also runs 50 seeds over
-# openraft's default leader ids, by a copy of the sources that is not proved. Without a word the tool does
-# both.
+# input and with words on its command line, and of the options of the simulated cluster. `seeds` runs the
+# cluster: 2,000 seeds and long runs, each of which must be safe and converge and never be long without a
+# commit, and 300 seeds with each planted fault, which some must show. It also runs 50 seeds over openraft's
+# default leader ids, by a copy of the sources that is not proved. Without a word the tool does both.
 set -u -o pipefail
 cd "$(dirname "$0")/.."
 crate=crates/raft_script
@@ -41,6 +41,8 @@ run() { timeout 60 $crate/out/raft_script "$@"; }
 run_into_full_device() { run "$@" > /dev/full; }
 run_into_closed_pipe() { run | head -n 1; }
 usage_of() { run "$@" | head -n 1; }
+cluster() { timeout 120 crates/cluster/out/cluster "$@"; }
+silent_cluster() { cluster "$@" > /dev/null; }
 begin() { printf 'init 0 1 -\nupdate 1 5\n'; }
 # Ten megabytes of a piece, over and over.
 ten_megabytes() { yes "$1" | tr -d '\n' | head -c 10000000; }
@@ -91,21 +93,53 @@ statuses() {
         compare "the word '$word'" 2 "" "$(run --help)" run "$word" < <(begin)
     done
     compare "--help into a full device" 1 "" "fault" run_into_full_device --help
+    options
+}
+
+# The options of the cluster: refused ones, and the help.
+options() {
+    local said widest
+    compare "no cluster" 1 "" "Error: 'seeds=0' runs no cluster" cluster seeds=0
+    compare "too few seeds" 1 "" "Error: there are fewer seeds from 18446744073709551615 on" \
+        cluster seed=18446744073709551615 seeds=2
+    compare "an option twice" 1 "" "Error: 'seed' comes more than once" cluster seed=1 chart=0 seed=2
+    compare "no option" 1 "" "Error: 'sed=1' is no option; \`--help\` lists the options" cluster sed=1
+    compare "no fault" 1 "" "Error: 'fault=None' names no fault; \`--help\` lists the faults" \
+        cluster fault=None
+    compare "the greatest seed" 0 "" "" silent_cluster seed=18446744073709551615 seeds=1
+    compare "-h of the cluster" 0 "$(cluster --help)" "" cluster -h
+    said=$(cluster --help)
+    grep -q '^      ForgetVote  *a server forgets its vote when it restarts$' <<< "$said"
+    count "the meaning of a fault" "$([ $? = 0 ] && echo right)" "$said"
+    widest=$(cluster seed=9 events=200000 | awk '/^ *[0-9]+ / && length > n { n = length } END { print n }')
+    [ "$widest" -gt 80 ] && [ "$widest" -le 100 ]
+    count "rows of a long run" "$([ $? = 0 ] && echo right)" "the widest one has $widest columns"
+}
+
+# A healthy cluster commits at least once in so many events. Clusters whose followers get too few entries
+# at once are ten times as long without a commit.
+longest_wait=20000
+
+# Whether a healthy run commits as often as it has to.
+commits_often() {
+    local wait
+    wait=$(sed -n 's/^longest time without a commit: \([0-9,]*\) events*$/\1/p' <<< "$1" | tr -d ,)
+    [ "${wait:-$longest_wait}" -lt $longest_wait ]
 }
 
 # Compares a run of the cluster: whether all clusters have to be healthy or some have to fail, and its words.
 run_seeds() {
     local due=$1 said status is=wrong
     shift
-    said=$(timeout 120 crates/cluster/out/cluster chart=0 "$@" 2> /dev/null)
+    said=$(cluster chart=0 "$@" 2> /dev/null)
     status=$?
     echo "seeds $*:"
-    tail -n 2 <<< "$said" | sed 's/^/    /'
+    tail -n 3 <<< "$said" | sed 's/^/    /'
     case "$due $status" in
-        "healthy 0") is=right ;;
+        "healthy 0") commits_often "$said" && is=right ;;
         "failing 1") grep -q '^seed ' <<< "$said" && is=right ;;
     esac
-    count "seeds $*" $is "status $status, $(tail -n 3 <<< "$said")"
+    count "seeds $*" $is "status $status, $(tail -n 4 <<< "$said")"
 }
 
 # Runs the cluster over openraft's default leader ids: a copy of the sources with two other aliases.
@@ -120,7 +154,7 @@ run_default_leader_ids() {
         "$copy/crates/cluster/src/types.rt"
     said=$(cd "$copy/crates/cluster" && rt try --seconds 600 -- chart=0 seeds=50 events=1500 2>&1)
     echo "seeds over the default leader ids:"
-    grep -E '^[0-9,]+ (elections|of)' <<< "$said" | sed 's/^/    /'
+    grep -E '^([0-9,]+ (elections?|of)|longest time)' <<< "$said" | sed 's/^/    /'
     grep -q '^50 of 50 clusters safe and converged' <<< "$said" \
         && [ "$(grep -c '_std::' "$copy/crates/cluster/src/types.rt")" = 0 ] && is=right
     count "the default leader ids" $is "$(tail -n 3 <<< "$said")"
@@ -129,11 +163,14 @@ run_default_leader_ids() {
 
 seeds() {
     local fault faults is=wrong
-    faults=$(crates/cluster/out/cluster --help | sed -n 's/^ \{6,\}\([A-Z][A-Za-z]*\)$/\1/p')
+    faults=$(crates/cluster/out/cluster --help | sed -n 's/^ \{6\}\([A-Z][A-Za-z]*\)  *[a-z].*$/\1/p')
     [ "$(wc -w <<< "$faults")" -ge 10 ] && is=right
     count "faults" $is "there are less than ten: $faults"
     run_seeds healthy seeds=2000 events=1500
-    run_seeds healthy seeds=2 events=200000
+    # With at most four entries a request, seed 321 commits nothing for 109,727 events.
+    for seed in 1 321; do
+        run_seeds healthy "seed=$seed" seeds=2 events=200000
+    done
     for fault in $faults; do
         run_seeds failing seeds=300 events=1500 "fault=$fault"
     done

@@ -7,17 +7,18 @@ use raft_base::LogStateReader;
 use std::alloc::AllocError;
 use std::ops::Range;
 
-/// How many indexes of a log are shown.
-const WIDTH: u64 = 7;
+/// How many indexes of a log are shown. With six of them, and two digits of a term, a row has at most
+/// 100 columns.
+const WIDTH: u64 = 6;
 
 /// What the signs mean, and the head of the columns.
 pub const LEGEND: &str = "\
-A server has a role (L leader, C candidate, F follower, N no voter), a term, and a log: a letter for
-each entry, by the leader that has made it, a dot if it is purged; what is left of | is known to be
-committed. A * is cut off from those without. The last leader's members are voters (& joins two
-configs) and + learners.
+A server has a role (L leader, C candidate, F follower, N no voter), a term modulo 100, and a log: a
+letter for each entry, by the leader that has made it, a dot if it is purged; what is left of | is
+known to be committed. A * is cut off from those without. The last leader's members are voters (&
+joins two configs) and + learners.
 
-event server 1     server 2     server 3     server 4     server 5     members    what happens
+event server 1    server 2    server 3    server 4    server 5    members    what happens
 ";
 
 impl Cluster {
@@ -40,7 +41,12 @@ impl Cluster {
             } else {
                 ' '
             };
-            write!(chart, "{mark}{}{:<2} ", letter_of(server), server.term)?;
+            write!(
+                chart,
+                "{mark}{}{:<2} ",
+                letter_of(server),
+                server.term % 100
+            )?;
             self.draw_log(server, first, chart)?;
         }
         if let Some(leader) = self.last_leader() {

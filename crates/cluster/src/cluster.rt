@@ -117,7 +117,7 @@ impl Cluster {
 
     /// Lets something happen.
     fn step(&mut self, table: &[(Event, u64)]) -> Result<(), Violation> {
-        self.tally.events = self.tally.events.saturating_add(1);
+        self.tally.count_event();
         self.network.lose_old(self.tally.events);
         self.news = None;
         let place = self.random.random_range(0..SERVERS) as usize;
@@ -213,10 +213,14 @@ impl Cluster {
         if self.tally.events <= RECORDED {
             self.record(place, said)?;
         }
-        match self.servers.get(place) {
-            Some(server) => self.history.check(server, &self.servers),
-            None => Ok(()),
+        if let Some(server) = self.servers.get(place) {
+            let known = self.history.committed.len();
+            self.history.check(server, &self.servers)?;
+            if self.history.committed.len() > known {
+                self.tally.note_commit();
+            }
         }
+        Ok(())
     }
 
     /// Records what a server has done. Every so often all that is recorded is checked.

@@ -30,18 +30,66 @@ pub enum Fault {
     CountOldMembers,
 }
 
-/// Each fault, by the name that the command line has for it.
-pub const FAULTS: [(&str, Fault); 12] = [
-    ("CommitEarlierTerm", Fault::CommitEarlierTerm),
-    ("IgnoreLastLog", Fault::IgnoreLastLog),
-    ("VoteTwice", Fault::VoteTwice),
-    ("CountRefusal", Fault::CountRefusal),
-    ("ForgetVote", Fault::ForgetVote),
-    ("KeepConflicts", Fault::KeepConflicts),
-    ("AcknowledgeUnwritten", Fault::AcknowledgeUnwritten),
-    ("AcknowledgeUninstalled", Fault::AcknowledgeUninstalled),
-    ("FollowPassedLeader", Fault::FollowPassedLeader),
-    ("ChangeEarly", Fault::ChangeEarly),
-    ("SkipJointConfig", Fault::SkipJointConfig),
-    ("CountOldMembers", Fault::CountOldMembers),
+/// Each fault, with its name on the command line and what `--help` says of it.
+pub const FAULTS: [(Fault, &str, &str); 12] = [
+    (
+        Fault::CommitEarlierTerm,
+        "CommitEarlierTerm",
+        "a leader commits entries of earlier leaders alone",
+    ),
+    (
+        Fault::IgnoreLastLog,
+        "IgnoreLastLog",
+        "a voter votes for a candidate whose log is behind",
+    ),
+    (
+        Fault::VoteTwice,
+        "VoteTwice",
+        "a voter votes for two candidates in one term",
+    ),
+    (
+        Fault::CountRefusal,
+        "CountRefusal",
+        "a candidate counts a vote that was refused",
+    ),
+    (
+        Fault::ForgetVote,
+        "ForgetVote",
+        "a server forgets its vote when it restarts",
+    ),
+    (
+        Fault::KeepConflicts,
+        "KeepConflicts",
+        "a follower acknowledges entries but keeps its own",
+    ),
+    (
+        Fault::AcknowledgeUnwritten,
+        "AcknowledgeUnwritten",
+        "a follower acknowledges entries that it has not written",
+    ),
+    (
+        Fault::AcknowledgeUninstalled,
+        "AcknowledgeUninstalled",
+        "a follower acknowledges a snapshot that it has not installed",
+    ),
+    (
+        Fault::FollowPassedLeader,
+        "FollowPassedLeader",
+        "a follower takes entries from a leader of an earlier term",
+    ),
+    (
+        Fault::ChangeEarly,
+        "ChangeEarly",
+        "a leader changes members before an entry of its own is committed",
+    ),
+    (
+        Fault::SkipJointConfig,
+        "SkipJointConfig",
+        "a leader changes voters without a joint configuration",
+    ),
+    (
+        Fault::CountOldMembers,
+        "CountOldMembers",
+        "a leader goes on counting by the members before a change",
+    ),
 ];

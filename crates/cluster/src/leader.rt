@@ -12,22 +12,35 @@ use raft_handlers::{HandlerError, Outcome};
 use raft_progress::InflightOf;
 use std::alloc::AllocError;
 
-/// How many entries are sent at once.
-const MAX_ENTRIES: u64 = 4;
+/// How many entries a request carries, while no more wait to be committed. With so few a log grows
+/// in steps, and a leader can be lost between two of them.
+const FEW_ENTRIES: u64 = 4;
 
 impl Server {
     /// Returns what the leader sends next to a follower: entries, a snapshot, or a heartbeat if
     /// there is nothing to send or something is in flight. Without memory it sends nothing.
     pub fn next_request(&mut self, to: u64) -> Option<Content> {
         let last = self.last();
+        let max_entries = self.max_entries();
         let Role::Leader(leader) = &mut self.role else {
             return None;
         };
-        match leader.next_request(&self.state, &to, MAX_ENTRIES)? {
+        match leader.next_request(&self.state, &to, max_entries)? {
             InflightOf::Logs { id, log_id_range } => self.entries(Some(id), log_id_range),
             InflightOf::Snapshot { id, .. } => self.snapshot(id),
             InflightOf::None => self.entries(None, LogIdRange::new(last, last)),
         }
+    }
+
+    /// Returns how many entries a request carries at most: a few, or all that wait to be committed.
+    ///
+    /// An engine bounds a request by its bytes, and a follower that is behind gets hundreds of
+    /// entries at once. If each request had the same few, a follower might get no more of them than
+    /// leaders append until the next election. Then no entry of a leader's own reaches a quorum,
+    /// and nothing is committed any more.
+    fn max_entries(&self) -> u64 {
+        let uncommitted = end(self.last()).saturating_sub(end(self.state.committed));
+        uncommitted.max(FEW_ENTRIES)
     }
 
     /// Returns a request to append the entries of a range.

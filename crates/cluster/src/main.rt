@@ -74,14 +74,22 @@ fn run_one(rt: &HostRuntime, options: &Options, seed: u64, tally: &mut Tally) ->
     Ok(verdict.found.is_ok() && verdict.rules.is_ok())
 }
 
+/// Prints the options, and the faults with what each means.
+fn print_help(rt: &HostRuntime) -> Result<()> {
+    print!(rt; "{}", options::HELP)?;
+    for (_, name, meaning) in fault::FAULTS {
+        println!(rt; "      {name:<24}{meaning}")?;
+    }
+    Ok(())
+}
+
 fn main(rt: HostRuntime) -> Result<()> {
     let words: Vec<String> = env::args(&rt)?.skip(1).collect(rt.alloc())?;
-    if words.iter().any(|word| word.as_str() == "--help") {
-        print!(rt; "{}", options::HELP)?;
-        for (name, _) in fault::FAULTS {
-            println!(rt; "      {name}")?;
-        }
-        return Ok(());
+    if words
+        .iter()
+        .any(|word| matches!(word.as_str(), "--help" | "-h"))
+    {
+        return print_help(&rt);
     }
     let options = Options::parse(&words)?;
     if options.chart > 0 {

@@ -6,8 +6,10 @@ use anyhow::{Context, Result, bail};
 /// What `--help` prints before the names of the faults.
 pub const HELP: &str = "\
 Simulates clusters of five servers, one for each seed, and checks that they are safe and converge.
+The status is 0 if all are and do, and 1 otherwise.
 
     cluster [NAME=VALUE ..]
+    cluster --help | -h
 
     seed=1            the first seed
     seeds=1           how many clusters: one for this seed and for each that follows it
@@ -21,7 +23,7 @@ Simulates clusters of five servers, one for each seed, and checks that they are 
 pub struct Options {
     /// The first seed.
     pub seed: u64,
-    /// How many clusters there are.
+    /// How many clusters there are: at least one, and each has a seed of its own.
     pub seeds: u64,
     /// How many events happen to a cluster before its network is mended.
     pub events: u64,
@@ -36,7 +38,8 @@ impl Options {
     ///
     /// # Errors
     ///
-    /// The first word that is no option, or has no value that the option can have.
+    /// The first word that is no option, has no value that the option can have, or has the name of
+    /// another word; or that there is no cluster, or no seed for the last one.
     pub fn parse(words: &[String]) -> Result<Self> {
         let mut options = Options {
             seed: 1,
@@ -46,7 +49,10 @@ impl Options {
             fault: None,
         };
         for word in words {
-            let (name, value) = word.split_once('=').unwrap_or((word, ""));
+            let (name, value) = parts_of(word);
+            if times(words, name) > 1 {
+                bail!("'{name}' comes more than once");
+            }
             match name {
                 "seed" => options.seed = number(word, value)?,
                 "seeds" => options.seeds = number(word, value)?,
@@ -56,8 +62,28 @@ impl Options {
                 _ => bail!("'{word}' is no option; `--help` lists the options"),
             }
         }
+        let Some(others) = options.seeds.checked_sub(1) else {
+            bail!("'seeds=0' runs no cluster");
+        };
+        if options.seed.checked_add(others).is_none() {
+            bail!("there are fewer seeds from {} on", options.seed);
+        }
         Ok(options)
     }
+}
+
+/// Returns the name of an option, and its value.
+fn parts_of(word: &str) -> (&str, &str) {
+    word.split_once('=').unwrap_or((word, ""))
+}
+
+/// Returns how many words name an option.
+fn times(words: &[String], name: &str) -> u64 {
+    let mut times = 0u64;
+    for word in words {
+        times = times.saturating_add(u64::from(parts_of(word).0 == name));
+    }
+    times
 }
 
 /// Reads the value of an option that is a number.
@@ -69,7 +95,7 @@ fn number(word: &str, value: &str) -> Result<u64> {
 
 /// Reads the name of a fault.
 fn fault(word: &str, value: &str) -> Result<Fault> {
-    for (name, fault) in FAULTS {
+    for (fault, name, _) in FAULTS {
         if name == value {
             return Ok(fault);
         }

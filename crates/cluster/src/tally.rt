@@ -12,9 +12,25 @@ pub struct Tally {
     pub truncations: u64,
     pub snapshots: u64,
     pub restarts: u64,
+    /// How many events have happened when an entry was last committed.
+    committed_at: u64,
+    /// The greatest number of events from one commit, or the start, to the next, or the end.
+    longest_wait: u64,
 }
 
 impl Tally {
+    /// Counts an event that is about to happen.
+    pub fn count_event(&mut self) {
+        self.events = self.events.saturating_add(1);
+        let wait = self.events.saturating_sub(self.committed_at);
+        self.longest_wait = self.longest_wait.max(wait);
+    }
+
+    /// Takes note that an entry was committed in this event.
+    pub fn note_commit(&mut self) {
+        self.committed_at = self.events;
+    }
+
     /// Counts a deed. A snapshot counts once a follower has installed it.
     pub fn count(&mut self, deed: Deed) {
         let number = match deed {
@@ -36,22 +52,30 @@ impl Tally {
         self.truncations = self.truncations.saturating_add(other.truncations);
         self.snapshots = self.snapshots.saturating_add(other.snapshots);
         self.restarts = self.restarts.saturating_add(other.restarts);
+        self.longest_wait = self.longest_wait.max(other.longest_wait);
     }
 }
 
 impl fmt::Display for Tally {
     fn fmt<W: fmt::Write>(&self, f: &mut fmt::Formatter<W>) -> fmt::Result {
-        let elections = Number(self.elections);
-        let changes = Number(self.changes);
-        let truncations = Number(self.truncations);
-        let snapshots = Number(self.snapshots);
-        let restarts = Number(self.restarts);
-        write!(f, "{elections} elections, {changes} membership changes, ")?;
-        write!(
-            f,
-            "{truncations} truncations, {snapshots} snapshots, {restarts} restarts"
-        )
+        write_count(f, self.elections, "election")?;
+        f.write_str(", ")?;
+        write_count(f, self.changes, "membership change")?;
+        f.write_str(", ")?;
+        write_count(f, self.truncations, "truncation")?;
+        f.write_str(", ")?;
+        write_count(f, self.snapshots, "snapshot")?;
+        f.write_str(", ")?;
+        write_count(f, self.restarts, "restart")?;
+        f.write_str("\nlongest time without a commit: ")?;
+        write_count(f, self.longest_wait, "event")
     }
+}
+
+/// Writes how many things there are, by the name of one of them.
+fn write_count<W: fmt::Write>(f: &mut fmt::Formatter<W>, count: u64, name: &str) -> fmt::Result {
+    let ending = if count == 1 { "" } else { "s" };
+    write!(f, "{} {name}{ending}", Number(count))
 }
 
 /// A number as one reads it: with a comma, or in millions.
