@@ -4,7 +4,7 @@
 //! leader ids. `follower` and `leader` have steps as code, whose contracts say that they keep the
 //! rules. `refused` has events that the checker of traces refuses, each for its rule, and a trace
 //! that it accepts. `merged` has lists of events, one of each server, that have an allowed order or
-//! none. `recorded` makes the events of both.
+//! none. `recorded` makes the events of both. `texts` has debug texts.
 #![tactic(auto)]
 
 pub mod follower;
@@ -16,3 +16,5 @@ mod merged;
 mod recorded;
 #[cfg(test)]
 mod refused;
+#[cfg(test)]
+mod texts;

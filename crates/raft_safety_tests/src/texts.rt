@@ -1,0 +1,68 @@
+//! Debug texts of events, entries and memberships.
+
+use crate::recorded::{Recorded, acked, wrote};
+use raft_safety::entry::Entry;
+use raft_safety::event::Event;
+use raft_safety::memberships::Memberships;
+use std::alloc::{AllocError, Global};
+use std::fmt::Debug;
+use std::test::Fail;
+
+/// Whether the debug text of a value is the text.
+fn debugs<T: Debug>(alloc: Global, value: &T, text: &str) -> bool {
+    match format!(in alloc; "{value:?}") {
+        Ok(said) => said.as_str() == text,
+        Err(_) => false,
+    }
+}
+
+/// Whether memberships with one that an entry of content 7 holds have their text.
+fn memberships_print(alloc: Global) -> Result<bool, AllocError> {
+    let initial = vec![in alloc; (1..=3).collect(alloc)?]?;
+    let joint = vec![in alloc; (1..=2).collect(alloc)?]?;
+    let memberships = Memberships::<u64, u64> {
+        initial,
+        held: vec![in alloc; (7, joint)]?,
+    };
+    let text = "Memberships { initial: [[1, 2, 3]], held: [(7, [[1, 2]])] }";
+    Ok(debugs(alloc, &memberships, text))
+}
+
+/// Whether an event with entries has its text.
+fn appended_prints(alloc: Global) -> Result<bool, AllocError> {
+    let entry = Entry {
+        term: 2,
+        content: 9,
+    };
+    let event: Recorded = Event::Appended {
+        server: 1,
+        term: 2,
+        leader: 3,
+        keep: 4,
+        entries: vec![in alloc; entry]?,
+    };
+    let text = "Appended { server: 1, term: 2, leader: 3, keep: 4, \
+        entries: [Entry { term: 2, content: 9 }] }";
+    Ok(debugs(alloc, &event, text))
+}
+
+#[test]
+fn events_and_memberships_print(rt: HostRuntime) -> Result<(), Fail> {
+    let alloc = rt.alloc();
+    let are_right = [
+        debugs(
+            alloc,
+            &acked(1, 2, 3, 4),
+            "Acked { server: 1, term: 2, leader: 3, len: 4 }",
+        ),
+        debugs(
+            alloc,
+            &wrote(1, 2, (2, 9)),
+            "Wrote { leader: 1, term: 2, entry: Entry { term: 2, content: 9 } }",
+        ),
+        appended_prints(alloc)?,
+        memberships_print(alloc)?,
+    ];
+    assert!(rt; are_right == [true; 4]);
+    Ok(())
+}
