@@ -55,6 +55,8 @@ fn run_script(rt: &HostRuntime) -> u8 {
     let mut writer = io::writer(rt);
     let mut reason = String::new(rt.alloc());
     let status = script::run_explained(rt.alloc(), rt.reader(), &mut writer, &mut reason);
-    let _ = rt.eprint(reason.as_str());
+    if status == 2 {
+        let _ = rt.eprint(reason.as_str());
+    }
     status
 }

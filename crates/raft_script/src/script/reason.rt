@@ -7,7 +7,7 @@ use std::alloc::AllocError;
 const SHOWN: usize = 40;
 
 /// What a word has to be at its place.
-#[derive(Clone, Copy, PartialEq, Eq)]
+#[derive(Clone, Copy)]
 enum Form {
     Number,
     List,
@@ -40,8 +40,8 @@ impl Form {
     }
 }
 
-/// Returns the first reason why the line with a number cannot be run: the words of the line, or, if
-/// they are those of a step, that no `init` comes before it.
+/// Appends a line that says why the line with a number cannot be run: the first word that does not
+/// fit, or, if all words fit, that no `init` has succeeded before the step.
 pub fn push_reason(reason: &mut String, number: u64, line: &[u8]) -> Result<(), AllocError> {
     write!(reason, "line {number}: ")?;
     let mut words = Words { rest: line };
