@@ -22,7 +22,7 @@ use raft_state::VoteStateReader;
 use std::marker::Model;
 
 /// A node that asks the voters of its effective membership for their votes.
-#[derive(Drop)]
+#[derive(Debug, Drop)]
 pub struct Candidate<NID: NodeId, N: Node, L, C> {
     id: NID,
     vote: VoteIn<L>,

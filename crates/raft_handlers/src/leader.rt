@@ -27,7 +27,7 @@ use std::marker::Model;
 /// A leader, which a quorum has elected.
 ///
 /// It counts by a membership what each voter has of its log, itself among them.
-#[derive(Drop)]
+#[derive(Debug, Drop)]
 pub struct Leader<NID: NodeId, N: Node, C: Ord + Copy>
 where
     Option<LogIdOf<C>>: Ord,

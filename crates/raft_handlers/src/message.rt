@@ -7,6 +7,7 @@ ghost use Rattle.raft_handlers.specs.Append.{last_of};
 
 use raft_base::{LogIdOf, Node, NodeId, RaftLogId, VoteIn};
 use raft_state::{EntryOf, SnapshotMetaOf};
+use std::fmt;
 
 /// A candidate's request for a vote.
 #[derive(Debug, Clone, Copy, PartialEq, Eq)]
@@ -43,7 +44,7 @@ pub struct AppendEntries<L, C, NID: NodeId, N: Node, D> {
 }
 
 /// A leader's request to install a snapshot in place of the log up to the snapshot's last log id.
-#[derive(Drop)]
+#[derive(Debug, Drop)]
 pub struct InstallSnapshot<L, C, NID: NodeId, N: Node> {
     /// The leader, which a quorum has elected.
     pub leader_id: L,
@@ -85,5 +86,19 @@ impl<L, C: Copy, NID: NodeId, N: Node, D> AppendEntries<L, C, NID, N, D> {
             Some(entry) => Some(*entry.get_log_id()),
             None => self.prev,
         }
+    }
+}
+
+// Handwritten, because data need not have a debug text.
+impl<L: fmt::Debug, C: fmt::Debug, NID: NodeId, N: Node, D> fmt::Debug
+    for AppendEntries<L, C, NID, N, D> {
+    fn fmt<W: fmt::Write>(&self, f: &mut fmt::Formatter<W>) -> fmt::Result {
+        f.debug_struct("AppendEntries")
+            .field("leader_id", &self.leader_id)
+            .field("request", &self.request)
+            .field("prev", &self.prev)
+            .field("entries", &self.entries)
+            .field("committed", &self.committed)
+            .finish()
     }
 }
