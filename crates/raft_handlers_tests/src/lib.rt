@@ -19,6 +19,8 @@ mod snapshot;
 mod start;
 #[cfg(test)]
 mod states;
+#[cfg(test)]
+mod texts;
 pub mod uses;
 #[cfg(test)]
 mod vote;

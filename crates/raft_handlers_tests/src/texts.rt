@@ -1,0 +1,89 @@
+//! Debug texts of requests, candidates and leaders, over standard Raft's leader ids.
+
+use crate::candidate::candidate;
+use crate::snapshot::Install;
+use crate::states::{StateOf, entries, voter};
+use raft_base::leader_id_std::{CommittedLeaderId, LeaderId};
+use raft_base::{EmptyNode, LeaderStd, VoteOf};
+use raft_handlers::{AppendEntries, HandlerError, Leader};
+use raft_state::SnapshotMetaOf;
+use raft_testing::printing::debugs;
+use std::alloc::{AllocError, Global};
+use std::fmt::Debug;
+use std::test::Fail;
+
+/// A request over standard Raft's leader ids.
+type Append = AppendEntries<LeaderId<u64>, CommittedLeaderId, u64, EmptyNode, u64>;
+
+/// What a request with a blank entry prints.
+const APPEND: &str =
+    "AppendEntries { leader_id: LeaderId { term: 3, voted_for: Some(1) }, request: Some(7), \
+    prev: None, entries: [Entry { log_id: LogId { leader_id: CommittedLeaderId { term: 3 }, \
+    index: 0 }, payload: blank }], committed: None }";
+
+/// What a request with an empty snapshot prints.
+const INSTALL: &str =
+    "InstallSnapshot { leader_id: LeaderId { term: 3, voted_for: Some(1) }, request: 8, \
+    meta: SnapshotMeta { last_log_id: None, last_membership: StoredMembership { log_id: None, \
+    membership: Membership { configs: [], nodes: {} } }, snapshot_id: \"\" } }";
+
+/// How the text of a candidate begins.
+const CANDIDATE: &str =
+    "Candidate { id: 1, vote: Vote { leader_id: LeaderId { term: 6, voted_for: Some(1) }, \
+    committed: false }, last_log_id: Some(LogId { leader_id: CommittedLeaderId { term: 2 }, \
+    index: 4 }), votes: Tracked { membership: Membership { configs: [{1, 2, 3}], nodes: ";
+
+/// How the text of a leader begins.
+const LEADER: &str =
+    "Leader { id: 1, leader_id: CommittedLeaderId { term: 6 }, followers: Tracked { \
+    membership: Membership { configs: [{1, 2, 3}], nodes: ";
+
+/// Whether the debug text of a value begins with a text.
+fn begins<T: Debug>(alloc: Global, value: &T, text: &str) -> bool {
+    match format!(in alloc; "{value:?}") {
+        Ok(said) => said.as_str().starts_with(text),
+        Err(_) => false,
+    }
+}
+
+/// Whether a request with a blank entry has its text.
+fn append_prints(alloc: Global) -> Result<bool, AllocError> {
+    let request = Append {
+        leader_id: VoteOf::<u64, LeaderStd>::new(3, 1).leader_id,
+        request: Some(7),
+        prev: None,
+        entries: entries::<LeaderStd>(alloc, &[(3, 0)])?,
+        committed: None,
+    };
+    Ok(debugs(alloc, &request, APPEND))
+}
+
+/// Whether a request with an empty snapshot has its text.
+fn install_prints(alloc: Global) -> Result<bool, AllocError> {
+    let request = Install::<LeaderStd> {
+        leader_id: VoteOf::<u64, LeaderStd>::new(3, 1).leader_id,
+        request: 8,
+        meta: SnapshotMetaOf::try_default(alloc)?,
+    };
+    Ok(debugs(alloc, &request, INSTALL))
+}
+
+/// Whether the candidate of term 6, and the leader that it becomes, have their texts.
+fn node_prints(alloc: Global, state: &mut StateOf<LeaderStd>) -> Result<bool, HandlerError> {
+    let candidate = candidate::<LeaderStd>(state)?;
+    let leader = Leader::new(state, &candidate)?;
+    Ok(begins(alloc, &candidate, CANDIDATE) && begins(alloc, &leader, LEADER))
+}
+
+#[test]
+fn requests_and_nodes_print(rt: HostRuntime) -> Result<(), Fail> {
+    let alloc = rt.alloc();
+    let mut state = voter::<LeaderStd>(alloc)?;
+    let are_right = [
+        append_prints(alloc) == Ok(true),
+        install_prints(alloc) == Ok(true),
+        node_prints(alloc, &mut state) == Ok(true),
+    ];
+    assert!(rt; are_right == [true; 3]);
+    Ok(())
+}
