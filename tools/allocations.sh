@@ -56,10 +56,10 @@ run_script() { printf '%s\n' "$@" | crates/raft_script/out/raft_script; }
 answers_without() {
     local lines=("${script[@]}")
     lines[$1]='increase 99 0'
-    run_script "${lines[@]}" | sed "$1s/.*/no-memory/"
+    run_script "${lines[@]}" 2> /dev/null | sed "$1s/.*/no-memory/"
 }
 
-whole=$(run_script "${script[@]}")
+whole=$(run_script "${script[@]}" 2> /dev/null)
 answers=("2 $whole" $'2 no-memory\nbad line 2')
 for line in "${!script[@]}"; do
     [[ ${script[line]} == change* ]] && answers+=("2 $(answers_without "$line")")
@@ -74,14 +74,14 @@ is_right() {
     done
 }
 
-# Refuses each allocation of the program in turn, until a run has none left to refuse. The reason for the
-# bad line may be there or not.
+# Refuses each allocation of the program in turn, until a run has none left to refuse. The reason for a bad
+# line may be there or not.
 run_program() {
     local count=0 output status errors
     while :; do
         output=$(REFUSE_ALLOCATION=$((count + 1)) LD_PRELOAD=$folder/refuse.so run_script "${script[@]}" \
             2> "$folder/errors")
-        status=$? errors=$(grep -v '^line 12: ' "$folder/errors")
+        status=$? errors=$(grep -vE '^line [0-9]+: ' "$folder/errors")
         [ -z "$errors" ] && break
         count=$((count + 1))
         if ! is_right "$status" "$output" "$errors"; then
