@@ -83,10 +83,10 @@ last - - -
 by_last_leader 1.0,2.2,2.3 - 2.2,2.3
 by_last_leader 1.0,2.2 - 2.2
 by_last_leader 1.0 - 1.0
-is_key_list 1.1,1.2,2.3 - false
-is_key_list 1.1,2.1 - false
-is_key_list 2.1,1.2 - false
-is_key_list 1.1,3.2,2.3 - false
+key_log_ids 1.1,1.2,2.3 - -
+key_log_ids 1.1,2.1 - -
+key_log_ids 2.1,1.2 - -
+key_log_ids 1.1,3.2,2.3 - -
 ";
 
 /// Example state 1. Keys (1, 1), (2, 3), (2, 9) and others: `truncate`, `purge`, `append`,

@@ -58,6 +58,15 @@ impl Allocation {
             let _ = is_given(self.alloc, REFUSE_ONE.saturating_add(self.number));
         }
     }
+
+    /// Returns whether a call was made. In ample memory it has to be made, and otherwise the sweep
+    /// fails, as it does if there is no memory for the arguments: a misspelt call is no call.
+    pub fn made(self, is_made: bool) -> Result<bool, AllocError> {
+        if self.number == 0 && !is_made {
+            return Err(AllocError);
+        }
+        Ok(is_made)
+    }
 }
 
 /// Whether what a call has returned and left after a refusal is right, as `is_swept` has it.

@@ -10,14 +10,15 @@ use raft_testing::words::{log_ids, number, words};
 use std::alloc::{AllocError, Global};
 use std::process::Abort;
 
-/// Makes a call that changes the list, if it may be made: with the first of these log ids, or all.
+/// Makes a call that changes the list, with the first of these log ids, or all. Returns whether it
+/// is a call, and may be made.
 pub fn edit<C: Ord + Copy>(
     list: &mut LogIdListOf<C>,
     call: &str,
     argument: &str,
     ids: &[LogIdOf<C>],
-) -> Result<(), AllocError> {
-    match (call, ids.first()) {
+) -> Result<bool, AllocError> {
+    let made = match (call, ids.first()) {
         ("append", Some(id)) if list.can_append(*id) => list.append(*id),
         ("purge", Some(id)) if list.can_purge(id) => list.purge(id),
         ("extend", _) if list.can_extend(ids) => list.extend(ids),
@@ -28,7 +29,11 @@ pub fn edit<C: Ord + Copy>(
             list.truncate(number(argument));
             Ok(())
         }
-        _ => Ok(()),
+        _ => return Ok(false),
+    };
+    match made {
+        Ok(()) => Ok(true),
+        Err(refused) => Err(refused),
     }
 }
 
@@ -57,11 +62,12 @@ fn read<C: Ord + Copy>(
     }
 }
 
-/// The keys that a call reads, which are those of the last leader or all.
-fn keys<'a, C: Ord + Copy>(list: &'a LogIdListOf<C>, call: &str) -> &'a [LogIdOf<C>] {
+/// The keys that a call reads, if it reads some.
+fn keys<'a, C: Ord + Copy>(list: &'a LogIdListOf<C>, call: &str) -> Option<&'a [LogIdOf<C>]> {
     match call {
-        "by_last_leader" => list.by_last_leader(),
-        _ => list.key_log_ids(),
+        "by_last_leader" => Some(list.by_last_leader()),
+        "key_log_ids" => Some(list.key_log_ids()),
+        _ => None,
     }
 }
 
@@ -80,7 +86,10 @@ pub fn leads_to<C: Ord + Copy>(
     if let Some(read) = read(list, call, word) {
         return read == wanted.first().copied();
     }
-    edit(list, call, word, ids).is_ok() && keys(list, call) == wanted
+    if let Some(keys) = keys(list, call) {
+        return keys == wanted;
+    }
+    edit(list, call, word, ids) == Ok(true) && list.key_log_ids() == wanted
 }
 
 /// Whether the call of a row has the row's answer. Of words that are no keys, for which
