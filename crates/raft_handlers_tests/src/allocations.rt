@@ -1,17 +1,21 @@
-//! Handlers with each allocation refused in turn.
+//! Handlers with each allocation refused in turn, or all of them.
 
 use crate::candidate::candidate;
-use crate::leader::Led;
-use crate::states::{StateOf, entries, entry_of_members, follower, id, members, voter};
+use crate::leader::{LIFE, LeaderOf, Led, Right, SNAPSHOT, Step, snapshotted};
+use crate::states::{Entry, Row, StateOf, entries, entry_of_members, follower, id, members, voter};
+use crate::vote::{ROWS, answers};
 use raft_base::{EmptyNode, LeaderAdv, LeaderId, LeaderKind, VoteIn};
 use raft_handlers::{
-    AppendEntries, HandlerError, InstallSnapshot, Leader, Stored, handle_append_entries,
-    handle_install_snapshot, restart_server,
+    AppendEntries, Candidate, ChangeError, HandlerError, InstallSnapshot, Leader, Outcome,
+    Response, Stored, handle_append_entries, handle_install_snapshot, restart_server,
+    start_cluster,
 };
-use raft_members::StoredMembershipOf;
+use raft_members::{ChangeMembers, ChangeMembershipErrorOf, StoredMembershipOf};
 use raft_state::SnapshotMetaOf;
-use raft_testing::allocations::{Allocation, is_swept};
+use raft_testing::allocations::{Allocation, is_free_on, is_swept};
+use raft_testing::memory::holds;
 use std::alloc::{AllocError, Global};
+use std::collections::BTreeSet;
 use std::io;
 use std::test::Fail;
 
@@ -20,11 +24,22 @@ type Id = LeaderId<u64>;
 type State = StateOf<LeaderAdv>;
 
 /// Whether a handler did its work, or its allocation error.
-fn is_done<T: Drop>(made: Result<T, HandlerError>) -> Result<bool, AllocError> {
+fn is_done<T: Drop>(
+    allocation: Allocation,
+    made: Result<T, HandlerError>,
+) -> Result<bool, AllocError> {
     match made {
         Ok(_) => Ok(true),
         Err(HandlerError::OutOfMemory) => Err(AllocError),
-        Err(_) => Ok(false),
+        Err(_) => allocation.made(false),
+    }
+}
+
+/// What a handler made, or an allocation error in the place of any refusal.
+fn in_memory<T: Drop>(made: Result<T, HandlerError>) -> Result<T, AllocError> {
+    match made {
+        Ok(made) => Ok(made),
+        Err(_) => Err(AllocError),
     }
 }
 
@@ -54,7 +69,7 @@ fn snapshot(alloc: Global) -> Result<SnapshotMetaOf<Id, u64, EmptyNode>, AllocEr
 fn append(allocation: Allocation, state: &mut State) -> Result<bool, AllocError> {
     let request = appends_membership(allocation.alloc)?;
     allocation.refuse();
-    is_done(handle_append_entries(state, &request))
+    is_done(allocation, handle_append_entries(state, &request))
 }
 
 /// A follower installs a snapshot.
@@ -65,7 +80,7 @@ fn install(allocation: Allocation, state: &mut State) -> Result<bool, AllocError
         meta: snapshot(allocation.alloc)?,
     };
     allocation.refuse();
-    is_done(handle_install_snapshot(state, &request))
+    is_done(allocation, handle_install_snapshot(state, &request))
 }
 
 /// A server restarts with a snapshot and an entry after it.
@@ -77,20 +92,35 @@ fn restart(allocation: Allocation) -> Result<bool, AllocError> {
         committed: None,
     };
     allocation.refuse();
-    is_done(restart_server::<_, _, u64, _, _>(allocation.alloc, &stored))
+    is_done(
+        allocation,
+        restart_server::<_, _, u64, _, _>(allocation.alloc, &stored),
+    )
+}
+
+/// A new server starts a cluster.
+fn start(allocation: Allocation, state: &mut State) -> Result<bool, AllocError> {
+    let members = members(allocation.alloc)?;
+    allocation.refuse();
+    is_done(
+        allocation,
+        start_cluster::<_, _, _, _, u64>(state, &1, members),
+    )
 }
 
 #[test]
-fn allocations_of_a_follower(rt: HostRuntime) -> Result<(), Fail> {
+fn allocations_of_a_server(rt: HostRuntime) -> Result<(), Fail> {
     let alloc = rt.alloc();
     let state = |alloc: Global| follower::<LeaderAdv>(alloc, None);
     let appends = |allocation: Allocation, state: &mut State| append(allocation, state);
     assert!(rt; is_swept(&rt, alloc, "handle_append_entries", state, appends)?);
     let installs = |allocation: Allocation, state: &mut State| install(allocation, state);
     assert!(rt; is_swept(&rt, alloc, "handle_install_snapshot", state, installs)?);
-    let nothing = |_alloc: Global| Ok(());
-    let restarts = |allocation: Allocation, _nothing: &mut ()| restart(allocation);
-    assert!(rt; is_swept(&rt, alloc, "restart_server", nothing, restarts)?);
+    let new = |alloc: Global| State::try_default(alloc);
+    let restarts = |allocation: Allocation, _new: &mut State| restart(allocation);
+    assert!(rt; is_swept(&rt, alloc, "restart_server", new, restarts)?);
+    let starts = |allocation: Allocation, new: &mut State| start(allocation, new);
+    assert!(rt; is_swept(&rt, alloc, "start_cluster", new, starts)?);
     Ok(())
 }
 
@@ -100,44 +130,168 @@ fn elect<K: LeaderKind<u64>>(allocation: Allocation) -> Result<bool, AllocError>
     match candidate::<K>(&mut state) {
         Ok(candidate) => {
             allocation.refuse();
-            is_done(Leader::new(&mut state, &candidate))
+            is_done(allocation, Leader::new(&mut state, &candidate))
         }
         Err(_) => Err(AllocError),
     }
 }
 
-/// A leader proposes data, or a change of the voters.
-fn propose<K: LeaderKind<u64>>(
+/// Whether a change of the members was made, or its allocation error.
+fn is_changed<K: LeaderKind<u64>>(
     allocation: Allocation,
-    is_change: bool,
+    made: Result<Entry<K>, ChangeError<K::Committed, u64>>,
 ) -> Result<bool, AllocError> {
-    let Ok(mut led) = Led::<K>::committed(allocation.alloc) else {
-        return Err(AllocError);
-    };
-    allocation.refuse();
-    if is_change {
-        led.changes(allocation.alloc)
-    } else {
-        is_done(led.propose())
+    match made {
+        Ok(_) => Ok(true),
+        Err(ChangeError::Entry(HandlerError::OutOfMemory))
+        | Err(ChangeError::Change(ChangeMembershipErrorOf::OutOfMemory)) => Err(AllocError),
+        Err(_) => allocation.made(false),
     }
 }
 
-/// Whether the calls of a leader are right with each allocation refused in turn.
-fn is_leader_swept(rt: &impl Print, alloc: Global) -> io::Result<bool> {
-    let nothing = |_alloc: Global| Ok(());
-    let elects = |allocation: Allocation, _nothing: &mut ()| elect::<LeaderAdv>(allocation);
-    let mut is_right = is_swept(rt, alloc, "Leader::new", nothing, elects)?;
-    for (name, is_change) in [("Leader::propose", false), ("Leader::propose_change", true)] {
-        let proposes = |allocation: Allocation, _nothing: &mut ()| {
-            propose::<LeaderAdv>(allocation, is_change)
+impl<K: LeaderKind<u64>> Led<K> {
+    /// The leader 1 of a state, resumed, all of whose log up to a row is on disk at the nodes 1 and
+    /// 2.
+    fn granted(state: &StateOf<K>, upto: Row) -> Result<LeaderOf<K>, HandlerError> {
+        let mut leader = Leader::resume(1, state)?;
+        leader.handle_flushed(state, id::<K>(upto))?;
+        let _sent = leader.next_request(state, &2, 8);
+        let response = Response::<K::Leader, K::Committed> {
+            leader_id: leader.leader_id(),
+            request: Some(1),
+            outcome: Outcome::Matches(id::<K>(upto)),
         };
-        is_right &= is_swept(rt, alloc, name, nothing, proposes)?;
+        leader.handle_response(&2, &response)?;
+        Ok(leader)
+    }
+
+    /// The state that the call of a name borrows.
+    fn borrowed(alloc: Global, name: &str) -> Result<StateOf<K>, HandlerError> {
+        match name {
+            "Leader::leave_joint" => Led::<K>::joint(alloc),
+            "Leader::propose_change" => Ok(Led::<K>::committed(alloc)?.state),
+            _ => Ok(voter::<K>(alloc)?),
+        }
+    }
+
+    /// A leader proposes an entry, blank or with data.
+    fn proposes(
+        allocation: Allocation,
+        state: &mut StateOf<K>,
+        is_blank: bool,
+    ) -> Result<bool, AllocError> {
+        let leader: LeaderOf<K> = in_memory(Leader::resume(1, state))?;
+        allocation.refuse();
+        let made: Result<Entry<K>, HandlerError> = if is_blank {
+            leader.propose_blank(state)
+        } else {
+            leader.propose(state, 7)
+        };
+        is_done(allocation, made)
+    }
+
+    /// A leader proposes the voters 1 and 2.
+    fn changes(allocation: Allocation, state: &mut StateOf<K>) -> Result<bool, AllocError> {
+        let mut leader = in_memory(Led::<K>::granted(state, Some((3, 5))))?;
+        let ids: BTreeSet<u64> = [1, 2].iter().copied().collect(allocation.alloc)?;
+        allocation.refuse();
+        let made = leader.propose_change(state, ChangeMembers::ReplaceAllVoters(ids), false);
+        is_changed::<K>(allocation, made)
+    }
+
+    /// A leader leaves a joint membership.
+    fn leaves(allocation: Allocation, state: &mut StateOf<K>) -> Result<bool, AllocError> {
+        let mut leader = in_memory(Led::<K>::granted(state, Some((3, 6))))?;
+        allocation.refuse();
+        let made = leader.leave_joint(state, false);
+        is_changed::<K>(allocation, made)
+    }
+
+    /// Makes the call of a name.
+    fn call(
+        allocation: Allocation,
+        state: &mut StateOf<K>,
+        name: &str,
+    ) -> Result<bool, AllocError> {
+        match name {
+            "Candidate::campaign" => {
+                allocation.refuse();
+                is_done(allocation, Candidate::campaign(1, 5, state))
+            }
+            "Leader::resume" => {
+                allocation.refuse();
+                is_done(allocation, Leader::resume(1, state))
+            }
+            "Leader::propose_blank" => Led::<K>::proposes(allocation, state, true),
+            "Leader::propose" => Led::<K>::proposes(allocation, state, false),
+            "Leader::propose_change" => Led::<K>::changes(allocation, state),
+            "Leader::leave_joint" => Led::<K>::leaves(allocation, state),
+            _ => Err(AllocError),
+        }
+    }
+}
+
+/// Whether the calls of a candidate and of a leader are right with each allocation refused in turn.
+fn is_leader_swept<K: LeaderKind<u64>>(rt: &impl Print, alloc: Global) -> io::Result<bool> {
+    let nothing = |_alloc: Global| Ok(());
+    let elects = |allocation: Allocation, _nothing: &mut ()| elect::<K>(allocation);
+    let mut is_right = is_swept(rt, alloc, "Leader::new", nothing, elects)?;
+    for name in [
+        "Candidate::campaign",
+        "Leader::resume",
+        "Leader::propose_blank",
+        "Leader::propose",
+        "Leader::propose_change",
+        "Leader::leave_joint",
+    ] {
+        let borrowed = |alloc: Global| in_memory(Led::<K>::borrowed(alloc, name));
+        let call = |allocation: Allocation, state: &mut StateOf<K>| {
+            Led::<K>::call(allocation, state, name)
+        };
+        is_right &= is_swept(rt, alloc, name, borrowed, call)?;
     }
     Ok(is_right)
 }
 
 #[test]
 fn allocations_of_a_leader(rt: HostRuntime) -> Result<(), Fail> {
-    assert!(rt; is_leader_swept(&rt, rt.alloc())?);
+    assert!(rt; is_leader_swept::<LeaderAdv>(&rt, rt.alloc())?);
+    Ok(())
+}
+
+/// Whether a leader makes the steps of a life as it should, without an allocation.
+fn lives_free<K: LeaderKind<u64>>(
+    rt: &impl Print,
+    alloc: Global,
+    name: &str,
+    life: &[(&'static str, Step, Right)],
+    state: Result<StateOf<K>, HandlerError>,
+) -> io::Result<bool> {
+    let led = match state {
+        Ok(state) => in_memory(Led::<K>::new(state)),
+        Err(_) => Err(AllocError),
+    };
+    is_free_on(rt, alloc, name, led, |led| led.fails(life).is_none())
+}
+
+/// Whether a leader sends, takes responses and commits without an allocation, with all of its log
+/// and with a snapshot.
+fn is_leader_free<K: LeaderKind<u64>>(rt: &impl Print, alloc: Global) -> io::Result<bool> {
+    let name = "Leader::{next_request, handle_response, handle_flushed, give_up, commit}";
+    let state = Ok(voter::<K>(alloc)?);
+    let is_right = lives_free::<K>(rt, alloc, name, LIFE, state)?;
+    let state = snapshotted::<K>(alloc);
+    Ok(lives_free::<K>(rt, alloc, name, SNAPSHOT, state)? && is_right)
+}
+
+#[test]
+fn no_allocations(rt: HostRuntime) -> Result<(), Fail> {
+    let alloc = rt.alloc();
+    for row in ROWS {
+        let state = follower::<LeaderAdv>(alloc, None);
+        let vote = |state: &mut State| holds(answers::<LeaderAdv>(state, row));
+        assert!(rt; is_free_on(&rt, alloc, "handle_vote_request", state, vote)?);
+    }
+    assert!(rt; is_leader_free::<LeaderAdv>(&rt, alloc)?);
     Ok(())
 }

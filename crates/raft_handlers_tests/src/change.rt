@@ -2,10 +2,11 @@
 
 use crate::asserts::assert_right;
 use crate::leader::Led;
-use crate::states::{Entry, Row, id, voter};
+use crate::states::{Entry, Row, StateOf, id, members_of, voter};
 use raft_base::{LeaderAdv, LeaderKind, LeaderStd};
 use raft_handlers::{ChangeError, HandlerError, Outcome};
-use raft_members::{ChangeMembers, ChangeMembershipErrorOf};
+use raft_members::{ChangeMembers, ChangeMembershipErrorOf, EffectiveMembershipOf};
+use raft_state::MembershipStateOf;
 use std::alloc::{AllocError, Global};
 use std::collections::BTreeSet;
 use std::test::Fail;
@@ -65,7 +66,7 @@ fn answer<K: LeaderKind<u64>>(
 
 impl<K: LeaderKind<u64>> Led<K> {
     /// Sends to node 2, takes its acknowledgement up to an index of term 3, and commits.
-    fn commit_upto(&mut self, request: u64, index: u64) -> Result<bool, HandlerError> {
+    pub fn commit_upto(&mut self, request: u64, index: u64) -> Result<bool, HandlerError> {
         let upto = id::<K>(Some((3, index)));
         self.leader.handle_flushed(&self.state, upto)?;
         let _sent = self.leader.next_request(&self.state, &2, 8);
@@ -80,19 +81,13 @@ impl<K: LeaderKind<u64>> Led<K> {
         Ok(led)
     }
 
-    /// Whether node 3 may leave, or the allocation error.
-    pub fn changes(&mut self, alloc: Global) -> Result<bool, AllocError> {
-        let ids: BTreeSet<u64> = [1, 2].iter().copied().collect(alloc)?;
-        let change = ChangeMembers::ReplaceAllVoters(ids);
-        let made: Result<Entry<K>, ChangeError<K::Committed, u64>> = self
-            .leader
-            .propose_change(&mut self.state, change, false);
-        match made {
-            Ok(_) => Ok(true),
-            Err(ChangeError::Entry(HandlerError::OutOfMemory))
-            | Err(ChangeError::Change(ChangeMembershipErrorOf::OutOfMemory)) => Err(AllocError),
-            Err(_) => Ok(false),
-        }
+    /// The state of a leader that has committed the joint membership on the way to the voters 1
+    /// and 2.
+    pub fn joint(alloc: Global) -> Result<StateOf<K>, HandlerError> {
+        let mut led = Led::<K>::committed(alloc)?;
+        let _entry = led.change(alloc, Step::Change(&[1, 2]), None)?;
+        let _more = led.commit_upto(2, 6)?;
+        Ok(led.state)
     }
 
     /// What a step leads to, which appends at a row if it appends.
@@ -144,5 +139,47 @@ fn fails<K: LeaderKind<u64>>(alloc: Global) -> Result<Option<&'static str>, Hand
 fn a_member_leaves_in_two_steps(rt: HostRuntime) -> Result<(), Fail> {
     assert_right(&rt, "default leader ids", fails::<LeaderAdv>(rt.alloc())?);
     assert_right(&rt, "standard leader ids", fails::<LeaderStd>(rt.alloc())?);
+    Ok(())
+}
+
+/// Committed and effective voters, and whether the leader 1 is removed with them.
+const REMOVED: &[(&str, &[u64], &[u64], bool)] = &[
+    ("a voter of both", &[1, 2], &[1, 2], false),
+    ("a voter of the committed ones", &[1, 2], &[2, 3], false),
+    ("a voter of the effective ones", &[2, 3], &[1, 2], false),
+    ("a voter of neither", &[2, 3], &[2, 3], true),
+];
+
+impl<K: LeaderKind<u64>> Led<K> {
+    /// Whether the leader is removed, and must step down, exactly if it should with these voters.
+    fn is_removed_as(
+        &mut self,
+        alloc: Global,
+        (committed, effective): (&[u64], &[u64]),
+        removed: bool,
+    ) -> Result<bool, AllocError> {
+        let at = id::<K>(Some((2, 4)));
+        let committed = EffectiveMembershipOf::new_arc(at, members_of(alloc, committed)?)?;
+        let effective = EffectiveMembershipOf::new_arc(at, members_of(alloc, effective)?)?;
+        self.state.membership_state = MembershipStateOf::new(committed, effective);
+        let is_removed = self.leader.is_removed(&self.state);
+        Ok(is_removed == removed && self.leader.must_step_down(&self.state) == removed)
+    }
+}
+
+/// Returns the name of the first row whose leader is not removed exactly if it should be.
+fn wrong_removal<K: LeaderKind<u64>>(alloc: Global) -> Result<Option<&'static str>, HandlerError> {
+    let mut led = Led::<K>::new(voter::<K>(alloc)?)?;
+    for (name, committed, effective, removed) in REMOVED {
+        if !led.is_removed_as(alloc, (*committed, *effective), *removed)? {
+            return Ok(Some(*name));
+        }
+    }
+    Ok(None)
+}
+
+#[test]
+fn a_removed_leader_steps_down(rt: HostRuntime) -> Result<(), Fail> {
+    assert_right(&rt, "a leader", wrong_removal::<LeaderStd>(rt.alloc())?);
     Ok(())
 }

@@ -22,7 +22,7 @@ pub struct Led<K: LeaderKind<u64>, F = LeaderOf<K>> {
 
 /// What happens to a leader.
 #[derive(Clone, Copy)]
-enum Step {
+pub enum Step {
     /// It may send to a node.
     Send(u64),
     /// A node acknowledges a request up to a row.
@@ -38,6 +38,8 @@ enum Step {
     /// Its log is on disk up to a row.
     Flush(Row),
     Commit,
+    /// It is asked whether a quorum has an entry of its own.
+    Own,
     Propose,
     /// It hears of a higher vote.
     Promise,
@@ -45,7 +47,7 @@ enum Step {
 
 /// What is right then.
 #[derive(Clone, Copy)]
-enum Right {
+pub enum Right {
     /// A request with this number has the log ids after a row up to another one.
     Logs(u64, Row, Row),
     /// A request with this number has the snapshot up to a row.
@@ -152,7 +154,7 @@ impl<K: LeaderKind<u64>> Led<K> {
                 Ok(())
             }
             // `meets` compares what these return.
-            Step::Send(_) | Step::Commit | Step::Promise => Ok(()),
+            Step::Send(_) | Step::Commit | Step::Own | Step::Promise => Ok(()),
         }
     }
 
@@ -163,6 +165,7 @@ impl<K: LeaderKind<u64>> Led<K> {
                 self.leader.next_request(&self.state, &to, 8) == sent::<K>(right)
             }
             (Step::Commit, _) => self.commit() == Some(matches!(right, Right::Done)),
+            (Step::Own, _) => self.leader.has_own_granted() == matches!(right, Right::Done),
             (Step::Promise, _) => self.promise(),
             (_, Right::Refused(refusal)) => self.make(step) == Err(refusal),
             _ => self.make(step) == Ok(()),
@@ -170,7 +173,7 @@ impl<K: LeaderKind<u64>> Led<K> {
     }
 
     /// Returns the name of the first row with another result.
-    fn fails(&mut self, rows: &[(&'static str, Step, Right)]) -> Option<&'static str> {
+    pub fn fails(&mut self, rows: &[(&'static str, Step, Right)]) -> Option<&'static str> {
         for (name, step, right) in rows {
             if !self.meets(*step, *right) {
                 return Some(*name);
@@ -207,7 +210,7 @@ const PAST: Right = Right::Refused(HandlerError::ResponseRefused(InflightError::
 const END: Row = Some((3, 5));
 
 /// What a leader meets that has all of its log.
-const LIFE: &[(&str, Step, Right)] = &[
+pub const LIFE: &[(&str, Step, Right)] = &[
     ("all", Step::Send(2), Right::Logs(1, None, END)),
     ("one request at a time", Step::Send(2), Right::Heartbeat),
     ("no member", Step::Send(9), Right::NoMember),
@@ -237,7 +240,9 @@ const LIFE: &[(&str, Step, Right)] = &[
         Step::Commit,
         Right::Nothing,
     ),
+    ("none of its own is granted", Step::Own, Right::Nothing),
     ("its own", Step::Take(2, 1, END), Right::Done),
+    ("its own is granted", Step::Own, Right::Done),
     ("a doubled response", Step::Take(2, 1, END), DOUBLED),
     ("its own are committed", Step::Commit, Right::Done),
     ("only once", Step::Commit, Right::Nothing),
@@ -267,7 +272,7 @@ const LIFE: &[(&str, Step, Right)] = &[
 const START: Row = Some((2, 2));
 
 /// What a leader meets whose log begins after a snapshot.
-const SNAPSHOT: &[(&str, Step, Right)] = &[
+pub const SNAPSHOT: &[(&str, Step, Right)] = &[
     ("its log", Step::Send(2), Right::Logs(1, START, END)),
     (
         "the node has none of it",
@@ -299,11 +304,16 @@ fn install<K: LeaderKind<u64>>(state: &mut StateOf<K>, alloc: Global) -> Result<
     Ok(())
 }
 
-/// Returns the name of the first row of a snapshot that is lost with another result.
-fn lost_snapshot<K: LeaderKind<u64>>(alloc: Global) -> Result<Option<&'static str>, HandlerError> {
+/// The state of `voter` whose log begins after a snapshot.
+pub fn snapshotted<K: LeaderKind<u64>>(alloc: Global) -> Result<StateOf<K>, HandlerError> {
     let mut state = voter::<K>(alloc)?;
     install::<K>(&mut state, alloc)?;
-    let mut led = Led::<K>::new(state)?;
+    Ok(state)
+}
+
+/// Returns the name of the first row of a snapshot that is lost with another result.
+fn lost_snapshot<K: LeaderKind<u64>>(alloc: Global) -> Result<Option<&'static str>, HandlerError> {
+    let mut led = Led::<K>::new(snapshotted::<K>(alloc)?)?;
     Ok(led.fails(SNAPSHOT))
 }
 

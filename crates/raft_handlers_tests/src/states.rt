@@ -40,11 +40,16 @@ pub fn entries<K: LeaderKind<u64>>(
     Ok(entries)
 }
 
+/// The membership of these voters. The nodes are 1, 2 and 3.
+pub fn members_of(alloc: Global, voters: &[u64]) -> Result<Membership<u64, EmptyNode>, AllocError> {
+    let nodes: BTreeMap<u64, EmptyNode> = (1..=3).map(|id| (id, EmptyNode::new())).collect(alloc)?;
+    let voters: BTreeSet<u64> = voters.iter().copied().collect(alloc)?;
+    Membership::new_unchecked(vec![in alloc; voters]?, nodes)
+}
+
 /// The membership of the voters 1, 2 and 3.
 pub fn members(alloc: Global) -> Result<Membership<u64, EmptyNode>, AllocError> {
-    let nodes: BTreeMap<u64, EmptyNode> = (1..=3).map(|id| (id, EmptyNode::new())).collect(alloc)?;
-    let voters: BTreeSet<u64> = [1, 2, 3].iter().copied().collect(alloc)?;
-    Membership::new_unchecked(vec![in alloc; voters]?, nodes)
+    members_of(alloc, &[1, 2, 3])
 }
 
 /// A server whose vote is for the leader 1 of term 3, whose log is (1, 0), (1, 1), (2, 2), (2, 3),

@@ -8,9 +8,12 @@ use raft_testing::memory::on;
 use std::alloc::{AllocError, Global};
 use std::test::Fail;
 
+/// What a candidate asks, and whether the vote is granted.
+pub type Asked = (&'static str, (u64, u64), Row, bool);
+
 /// The term and the node of a vote, the last log id of the candidate, and whether a server grants
 /// the vote that has promised term 3 to node 1, and whose last log id is (2, 3).
-const ROWS: &[(&str, (u64, u64), Row, bool)] = &[
+pub const ROWS: &[Asked] = &[
     ("a log as long", (4, 2), Some((2, 3)), true),
     (
         "a log that ends with a later term",
@@ -36,9 +39,9 @@ const ROWS: &[(&str, (u64, u64), Row, bool)] = &[
 ];
 
 /// Whether a server grants the vote of a row exactly if it should, and has promised it exactly then.
-fn answers<K: LeaderKind<u64>>(
+pub fn answers<K: LeaderKind<u64>>(
     state: &mut StateOf<K>,
-    row: &(&str, (u64, u64), Row, bool),
+    row: &Asked,
 ) -> Result<bool, AllocError> {
     let (_, (term, node), last, granted) = *row;
     let request = VoteRequest {
