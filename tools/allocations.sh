@@ -37,7 +37,7 @@ run_tests() {
 }
 
 for tests in raft_base_tests raft_members_tests raft_progress_tests raft_state_tests \
-    raft_handlers_tests; do
+    raft_handlers_tests raft_safety_tests; do
     run_tests "$tests"
 done
 

@@ -4,12 +4,18 @@
 //! leader ids. `follower` and `leader` have steps as code, whose contracts say that they keep the
 //! rules. `refused` has events that the checker of traces refuses, each for its rule, and a trace
 //! that it accepts. `merged` has lists of events, one of each server, that have an allowed order or
-//! none. `recorded` makes the events of both. `texts` has debug texts.
+//! none. `recorded` makes the events of both. `memberships` has what the checker asks of
+//! memberships and of terms, `allocations` the checker with its allocations refused, and `texts`
+//! debug texts.
 #![tactic(auto)]
 
+#[cfg(test)]
+mod allocations;
 pub mod follower;
 pub mod laws;
 pub mod leader;
+#[cfg(test)]
+mod memberships;
 #[cfg(test)]
 mod merged;
 #[cfg(test)]

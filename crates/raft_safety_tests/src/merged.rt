@@ -34,7 +34,7 @@ fn follower(alloc: Global) -> Result<Vec<Recorded>, AllocError> {
 }
 
 /// Returns the first events of the follower and of the leader, so many of each.
-fn first_events(
+pub fn first_events(
     alloc: Global,
     follower_len: usize,
     leader_len: usize,

@@ -1,0 +1,181 @@
+//! The checker with each allocation refused in turn, or all of them.
+
+use crate::merged::first_events;
+use crate::recorded::{
+    Recorded, acked, appended, applied, campaigned, committed, granted, restarted, three, wrote,
+};
+use raft_safety::check::check;
+use raft_safety::checker::{Checker, Violation};
+use raft_safety::memberships::Memberships;
+use raft_safety::merge::check_each;
+use raft_testing::allocations::{Allocation, is_free_on, is_swept};
+use raft_testing::memory::both;
+use std::alloc::{AllocError, Global};
+use std::io;
+use std::test::Fail;
+
+/// A checker of recorded events.
+type Checked = Checker<u64, u64, u64, Memberships<u64, u64>>;
+
+/// The events of `history` that allocate, by their positions.
+const EVENTS: [(&str, usize); 8] = [
+    ("Checker::record, Restarted", 0),
+    ("Checker::record, Campaigned", 1),
+    ("Checker::record, Granted", 2),
+    ("Checker::record, Wrote", 3),
+    ("Checker::record, Appended", 4),
+    ("Checker::record, Acked", 5),
+    ("Checker::record, Committed", 8),
+    ("Checker::record, a later Campaigned", 9),
+];
+
+/// The position of the last event of `history`, which does not allocate.
+const LAST: usize = 10;
+
+/// Server 3 restarts. Server 0 is elected in term 1 by server 1, and both have its entry, which it
+/// commits. Server 2 campaigns in term 2. Server 0 applies the entry.
+fn history(alloc: Global) -> Result<Vec<Recorded>, AllocError> {
+    let (taken, shared) = both(
+        appended(alloc, (0, 1, 0), 0, (1, 10)),
+        appended(alloc, (1, 1, 0), 0, (1, 10)),
+    )?;
+    Ok(vec![in alloc;
+        restarted(3, 0),
+        campaigned(0, 1),
+        granted(1, 1, 0),
+        wrote(0, 1, (1, 10)),
+        taken,
+        acked(0, 1, 0, 1),
+        shared,
+        acked(1, 1, 0, 1),
+        committed(0, 1, 1, 1),
+        campaigned(2, 2),
+        applied(0, 1, 0, 1),
+    ]?)
+}
+
+/// Records events, and returns whether all are allowed.
+fn records(checker: &mut Checked, events: &[Recorded]) -> Result<bool, AllocError> {
+    for event in events {
+        match checker.record(event) {
+            Ok(()) => {}
+            Err(Violation::OutOfMemory) => return Err(AllocError),
+            Err(Violation::Rule(_)) => return Ok(false),
+        }
+    }
+    Ok(true)
+}
+
+/// A checker that has recorded these events.
+fn checked(alloc: Global, events: &[Recorded]) -> Result<Checked, AllocError> {
+    let Ok(mut checker) = Checker::new(alloc, three(alloc)?) else {
+        return Err(AllocError);
+    };
+    if records(&mut checker, events)? {
+        Ok(checker)
+    } else {
+        Err(AllocError)
+    }
+}
+
+/// Records the event of `history` at a position after those before it, with an allocation refused.
+/// If memory was out, the checker has to take this event and all later ones afterwards.
+fn record(allocation: Allocation, position: usize) -> Result<bool, AllocError> {
+    let events = history(allocation.alloc)?;
+    let (before, rest) = events.split_at(position.min(events.len()));
+    let mut checker = checked(allocation.alloc, before)?;
+    let Some(event) = rest.first() else {
+        return Err(AllocError);
+    };
+    allocation.refuse();
+    match checker.record(event) {
+        Ok(()) => Ok(true),
+        Err(Violation::Rule(_)) => allocation.made(false),
+        Err(Violation::OutOfMemory) => {
+            if records(&mut checker, rest)? {
+                Err(AllocError)
+            } else {
+                Ok(false)
+            }
+        }
+    }
+}
+
+/// Whether events were allowed, or the allocation error.
+fn is_allowed(allocation: Allocation, refused: Option<Violation>) -> Result<bool, AllocError> {
+    match refused {
+        None => Ok(true),
+        Some(Violation::OutOfMemory) => Err(AllocError),
+        Some(Violation::Rule(_)) => allocation.made(false),
+    }
+}
+
+/// Checks all of `history`, or lists of events of a leader and of a follower, with an allocation
+/// refused.
+fn check_all(allocation: Allocation, has_lists: bool) -> Result<bool, AllocError> {
+    let alloc = allocation.alloc;
+    let (events, lists) = both(history(alloc), first_events(alloc, 4, 6))?;
+    let configs = three(alloc)?;
+    allocation.refuse();
+    let refused = if has_lists {
+        check_each(alloc, configs, &lists)
+            .err()
+            .map(|refused| refused.violation)
+    } else {
+        check(alloc, configs, &events)
+            .err()
+            .map(|refused| refused.violation)
+    };
+    is_allowed(allocation, refused)
+}
+
+/// Whether the calls of the checker are right with each allocation refused in turn.
+fn is_checker_swept(rt: &impl Print, alloc: Global) -> io::Result<bool> {
+    let nothing = |_alloc: Global| Ok(());
+    let mut is_right = true;
+    for (name, position) in EVENTS {
+        let records = |allocation: Allocation, _nothing: &mut ()| record(allocation, position);
+        is_right &= is_swept(rt, alloc, name, nothing, records)?;
+    }
+    for (name, has_lists) in [("check", false), ("check_each", true)] {
+        let checks = |allocation: Allocation, _nothing: &mut ()| check_all(allocation, has_lists);
+        is_right &= is_swept(rt, alloc, name, nothing, checks)?;
+    }
+    Ok(is_right)
+}
+
+#[test]
+fn allocations_of_the_checker(rt: HostRuntime) -> Result<(), Fail> {
+    assert!(rt; is_checker_swept(&rt, rt.alloc())?);
+    Ok(())
+}
+
+/// Memberships for a new checker, and a checker that has recorded all of `history` but the last
+/// event.
+type Held = (Option<Memberships<u64, u64>>, Checked);
+
+/// Makes these.
+fn held(alloc: Global) -> Result<Held, AllocError> {
+    let events = history(alloc)?;
+    let (before, _) = events.split_at(LAST.min(events.len()));
+    let (configs, checker) = both(three(alloc), checked(alloc, before))?;
+    Ok((Some(configs), checker))
+}
+
+/// Whether a checker is made, and another one records that a server applies an entry.
+fn is_new_and_applies(alloc: Global, held: &mut Held) -> bool {
+    let is_new = match held.0.take() {
+        Some(configs) => Checker::<u64, u64, u64, _>::new(alloc, configs).is_ok(),
+        None => false,
+    };
+    is_new && held.1.record(&applied(0, 1, 0, 1)) == Ok(())
+}
+
+#[test]
+fn no_allocations(rt: HostRuntime) -> Result<(), Fail> {
+    let alloc = rt.alloc();
+    let name = "Checker::{new, record}, Applied";
+    let applies = |held: &mut Held| is_new_and_applies(alloc, held);
+    assert!(rt; is_free_on(&rt, alloc, name, held(alloc), applies)?);
+    Ok(())
+}

@@ -1,0 +1,53 @@
+//! What the checker asks of memberships and of terms.
+
+use crate::recorded::three;
+use raft_base::LeaderId;
+use raft_base::leader_id_std::CommittedLeaderId;
+use raft_safety::checker::Configs;
+use raft_safety::memberships::Memberships;
+use raft_safety::term::Term;
+use raft_testing::facts::first_wrong;
+use std::test::Fail;
+
+/// Returns which answer of the memberships of `three` is wrong. Content 100 holds the joint one of
+/// 0, 1, 2 and 2, 3, 4, and content 101 that of 2, 3, 4.
+fn wrong_membership(memberships: &Memberships<u64, u64>) -> Option<&'static str> {
+    first_wrong(&[
+        ("a content with a config", memberships.holds_config(100)),
+        ("a content without", !memberships.holds_config(10)),
+        ("two of three", memberships.is_quorum(None, &[0, 1])),
+        ("one of three", !memberships.is_quorum(None, &[0])),
+        (
+            "of one config alone",
+            !memberships.is_quorum(Some(100), &[0, 1]),
+        ),
+        (
+            "of both configs",
+            memberships.is_quorum(Some(100), &[0, 2, 3]),
+        ),
+        ("a shared config", memberships.do_intersect(None, Some(100))),
+        (
+            "no shared config",
+            !memberships.do_intersect(None, Some(101)),
+        ),
+    ])
+}
+
+/// Returns which rank is wrong.
+fn wrong_rank() -> Option<&'static str> {
+    let pair = (1_u128 << 64) + 2;
+    first_wrong(&[
+        ("of a number", 7_u64.rank() == 7),
+        ("of a pair", (1_u64, 2_u64).rank() == pair),
+        ("of a leader id", LeaderId::new(1, 2_u64).rank() == pair),
+        ("of a term", CommittedLeaderId { term: 3 }.rank() == 3),
+    ])
+}
+
+#[test]
+fn memberships_and_terms_answer(rt: HostRuntime) -> Result<(), Fail> {
+    let memberships = three(rt.alloc())?;
+    let wrong = wrong_membership(&memberships).or(wrong_rank());
+    assert!(rt; wrong.is_none(), "{}", wrong.unwrap_or(""));
+    Ok(())
+}
