@@ -6,8 +6,9 @@ ghost use Rattle.std.specs.Prelude.{◌≡◌, false};
 
 use crate::asserts::{assert_call, assert_right, assert_row};
 use raft_base::order::{
-    compare_optional_log_ids, compare_standard_leader_ids, compare_standard_log_ids,
-    compare_standard_votes,
+    compare_default_votes, compare_leader_ids, compare_log_ids, compare_optional_log_ids,
+    compare_standard_leader_ids, compare_standard_log_ids, compare_standard_votes, compare_votes,
+    index_at_most, index_below, same_log_ids, same_optional_log_ids, same_votes,
 };
 use raft_base::{LeaderId, LogId, LogIdOf, Vote, leader_id_std};
 use raft_testing::allocations::{is_free, refuse_each};
@@ -85,6 +86,16 @@ const STANDARD_LOG_IDS: &str = "
 0.0 0.1 less
 ";
 
+/// Each row has two indexes that may be absent, and how the first one compares with the second one.
+const INDEXES: &str = "
+- - equal
+- 0 less
+0 - greater
+7 7 equal
+7 8 less
+18446744073709551615 8 greater
+";
+
 /// The order of a word, if two values compare.
 fn order(word: &str) -> Option<Ordering> {
     match word {
@@ -115,8 +126,23 @@ fn wrong_votes(row: [&str; 9]) -> Option<&'static str> {
         ("the votes", vote.partial_cmp(&other) == want),
         ("equality of the votes", (vote == other) == is_same),
         (
+            "the votes, as functions",
+            [
+                compare_votes(&vote, &other),
+                compare_default_votes(&vote, &other),
+            ] == [want; 2],
+        ),
+        (
+            "their equality, as a function",
+            same_votes(&vote, &other) == is_same,
+        ),
+        (
             "the leaders",
             decides_later || Some(leader.cmp(&other_leader)) == want,
+        ),
+        (
+            "the leaders, as a function",
+            decides_later || Some(compare_leader_ids(&leader, &other_leader)) == want,
         ),
         (
             "equality of the leaders",
@@ -161,14 +187,23 @@ fn wrong_standard_votes(row: [&str; 9]) -> Option<&'static str> {
 /// Returns what is wrong of the log ids of a row, as optional ones and alone.
 fn wrong_log_ids([one, other, want, ..]: [&str; 9]) -> Option<&'static str> {
     let (one, other): (Option<LogId<u64>>, _) = (log_id(one), log_id(other));
-    let order_alone = match (one, other) {
-        (Some(one), Some(other)) => Some(one.cmp(&other)),
-        _ => None,
-    };
     let want = order(want);
+    let is_same = want == Some(Ordering::Equal);
+    let are_right = match (one, other) {
+        (Some(one), Some(other)) => [
+            Some(one.cmp(&other)) == want,
+            Some(compare_log_ids(&one, &other)) == want,
+            same_log_ids(&one, &other) == is_same,
+        ],
+        _ => [false; 3],
+    };
     first_wrong(&[
-        ("the log ids", order_alone == want),
+        ("the log ids, also as functions", are_right == [true; 3]),
         ("optional ones", Some(one.cmp(&other)) == want),
+        (
+            "the equality of optional ones",
+            same_optional_log_ids(one, other) == is_same,
+        ),
         ("none", None < one),
     ])
 }
@@ -182,13 +217,23 @@ fn wrong_standard_log_ids([one, other, want, ..]: [&str; 9]) -> Option<&'static 
     first_wrong(&[("the log ids", made == order(want) && made.is_some())])
 }
 
+/// Returns what is wrong of the indexes of a row.
+fn wrong_indexes([one, other, want, ..]: [&str; 9]) -> Option<&'static str> {
+    let (one, other) = (one.parse::<u64>().ok(), other.parse::<u64>().ok());
+    first_wrong(&[
+        ("at most", index_at_most(one, other) == (want != "greater")),
+        ("below", index_below(one, other) == (want == "less")),
+    ])
+}
+
 /// Returns what is wrong of a row of a comparison.
-fn wrong_of(comparison: &str, row: &str) -> Option<&'static str> {
+pub fn wrong_of(comparison: &str, row: &str) -> Option<&'static str> {
     let row = words(row);
     match comparison {
         "comparison of votes" => wrong_votes(row),
         "comparison of standard votes" => wrong_standard_votes(row),
         "comparison of log ids" => wrong_log_ids(row),
+        "comparison of indexes" => wrong_indexes(row),
         _ => wrong_standard_log_ids(row),
     }
 }
@@ -205,6 +250,7 @@ fn votes_and_log_ids_compare(rt: HostRuntime) {
         ("comparison of standard votes", STANDARD_VOTES),
         ("comparison of log ids", LOG_IDS),
         ("comparison of standard log ids", STANDARD_LOG_IDS),
+        ("comparison of indexes", INDEXES),
     ] {
         refuse_each(rt.alloc());
         for row in rows.trim().lines() {

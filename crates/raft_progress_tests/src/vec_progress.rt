@@ -15,6 +15,7 @@ use std::test::Fail;
 /// it. A learner whose id is changed.
 const LIVES: &str = "
 0,1,2,3,4 6,7 0
+voters 5
 voter 1 yes
 voter 3 yes
 voter 7 no
@@ -51,7 +52,7 @@ update 8 4 0
 ";
 
 /// Configs of a cluster as one.
-type Configs = Joint<u64, Vec<u64>, Vec<Vec<u64>>>;
+pub type Configs = Joint<u64, Vec<u64>, Vec<Vec<u64>>>;
 
 /// Upgrades of configs, of which two are refused.
 const UPGRADES: &str = "
@@ -64,10 +65,12 @@ value 5 9
 upgrade 0,1,2 5,5 1 bad
 value 5 9
 upgrade 0,1,2/3,4,5 6 0 0
+voters 6
 value 5 9
 update 3 7 5
 update 4 8 5
 upgrade 3,4,5 1 0 8
+voters 3
 value 1 6
 ";
 

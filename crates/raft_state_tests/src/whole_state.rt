@@ -179,6 +179,28 @@ fn is_lent<C: Numbered>(read: Option<&LogIdOf<C>>, want: Row) -> bool {
     read.copied() == id(want)
 }
 
+/// Log ids, and whether the valid state has purged their index or has them in its log.
+const PURGED_OR_LOGGED: [(Row, bool); 8] = [
+    (None, true),
+    (Some((9, 0)), true),
+    (Some((9, 1)), true),
+    (Some((1, 2)), true),
+    (Some((2, 2)), false),
+    (Some((1, 4)), false),
+    (LAST, true),
+    (Some((3, 5)), false),
+];
+
+/// Whether the valid state has purged or logged the log ids that it should.
+fn has_purged_or_logged<L: Drop, C: Numbered + Drop>(state: &State<L, C>) -> bool {
+    for (at, want) in PURGED_OR_LOGGED {
+        if state.is_purged_or_logged(&id(at)) != want {
+            return false;
+        }
+    }
+    true
+}
+
 /// Whether the valid state reads as it should, and equals itself and no other, and a log whose
 /// committed log id (3,0) it does not have is not truncated where all that stays is below that.
 fn reads<L: Eq + Drop, C: Numbered + Drop>(state: &State<L, C>, other: &State<L, C>) -> bool {
@@ -195,6 +217,7 @@ fn reads<L: Eq + Drop, C: Numbered + Drop>(state: &State<L, C>, other: &State<L,
         is_lent(state.io_applied(), None),
         is_lent(state.io_snapshot_last_log_id(), None),
         is_lent(state.io_purged(), None),
+        has_purged_or_logged(state),
         !other.can_truncate_log(3),
         other.can_truncate_log(5),
         state.validate() == Ok(()),

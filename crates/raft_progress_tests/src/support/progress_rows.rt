@@ -13,6 +13,7 @@
 //! | `order` | none | `yes` or `no` |
 //! | `value`, `voter`, `index` | an id | the value, `yes` or `no`, the position; `-` if unknown |
 //! | `granted`, `default` | none | the part |
+//! | `voters` | none | how many there are |
 //! | `counts` | none | the updates and the moves |
 //! | `entries` | none | all of them in their order, as `1=6,0=5` |
 //!
@@ -144,7 +145,8 @@ pub fn steps<QS: Quorums>(
 }
 
 /// The reply to a step of a progress in order: by a replay of this step, or by a call of its own.
-/// An upgrade is always replayed, and `write` is an update by a closure.
+/// An upgrade, and an increase to a lesser value, are always replayed, and `write` is an update by
+/// a closure.
 pub fn answer<QS: Quorums>(
     alloc: Global,
     progress: &mut ProgressOf<QS>,
@@ -154,13 +156,14 @@ pub fn answer<QS: Quorums>(
     requires ordered { IsInOrder nat_eq nat_cmp (λ v. v) QS.has_quorum (view progress.old) }
 {
     let [name, first, second, ..] = words(row);
-    if by_replay || name == "upgrade" {
+    let (id, value) = (number(first), number(second));
+    let falls = progress.would_fall(&id, &value);
+    if by_replay || name == "upgrade" || (name == "increase" && falls) {
         let mut steps = Vec::new(alloc);
         steps.push(step(alloc, row)?)?;
         return Ok(replay_any(alloc, progress, steps)?.pop());
     }
-    let (id, value) = (number(first), number(second));
-    if progress.would_fall(&id, &value) {
+    if falls {
         return Ok(Some(Reply::WouldFall));
     }
     Ok(Some(match name {
@@ -267,6 +270,7 @@ fn is_read<QS: QuorumSet<u64>>(progress: &ProgressOf<QS>, row: &str) -> bool {
         "index" => progress.index(&id) == None,
         "granted" => *progress.granted() == id,
         "default" => *progress.default_part() == id,
+        "voters" => progress.voter_count() as u64 == id,
         "counts" => has_counts(progress.stat(), id, number(second)),
         "entries" => has_entries(progress, first),
         _ => false,
