@@ -457,7 +457,7 @@ pub fn purge<L: Drop, C: Ord + Copy + Drop>(
 }
 
 /// Makes a call of a state's log, if that may be.
-fn make<L: Drop, C: Numbered + Drop>(
+pub fn make<L: Drop, C: Numbered + Drop>(
     alloc: Global,
     state: &mut State<L, C>,
     [name, first, second]: [&str; 3],

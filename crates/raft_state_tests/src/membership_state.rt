@@ -43,9 +43,12 @@ append - 1.11 3 no
 ";
 
 /// The memberships of the rows.
-fn news<C: Numbered + Drop>(alloc: Global) -> Result<Vec<Rc<Effective<C>>>, AllocError> {
+fn news<C: Numbered + Drop>(
+    alloc: Global,
+    rows: &str,
+) -> Result<Vec<Rc<Effective<C>>>, AllocError> {
     let mut news = Vec::new(alloc);
-    for move_row in MOVES.trim().lines() {
+    for move_row in rows.trim().lines() {
         let [_, _, at, voters, ..] = words(move_row);
         news.extend(Some(effective(alloc, row(at), voters)?))?;
     }
@@ -127,8 +130,9 @@ fn move_right<C: Numbered + Drop>(
     from: &State<C>,
     same: &State<C>,
     news: &[Rc<Effective<C>>],
+    rows: &str,
 ) -> Result<bool, AllocError> {
-    for (row, new) in MOVES.trim().lines().zip(news) {
+    for (row, new) in rows.trim().lines().zip(news) {
         if !on(from.try_clone(), |state| leads(state, from, new, row))? {
             return Ok(false);
         }
@@ -136,7 +140,8 @@ fn move_right<C: Numbered + Drop>(
     Ok(from.validate() == Ok(()) && *from == *same && equals(from.clone(), same))
 }
 
-/// Whether a change is refused while the effective membership is not committed.
+/// Whether a change, and the test before it, are refused while the effective membership is not
+/// committed.
 fn is_early<C: Numbered + Default + Debug + Drop>(
     state: &State<C>,
     added: Result<BTreeSet<u64>, AllocError>,
@@ -146,8 +151,12 @@ fn is_early<C: Numbered + Default + Debug + Drop>(
         membership_log_id: id(Some((2, 10))),
     };
     let change = ChangeMembers::AddVoterIds(added?);
+    let is_tested = match state.change_handler().ensure_committed() {
+        Ok(()) => false,
+        Err(refused) => refused == want,
+    };
     let changed = state.change_handler().apply(change, true);
-    Ok(changed == Err(ChangeMembershipErrorOf::InProgress(want)))
+    Ok(is_tested && changed == Err(ChangeMembershipErrorOf::InProgress(want)))
 }
 
 /// Whether removed voters leave none, which is refused.
@@ -183,10 +192,11 @@ fn apply_right<C: Numbered + Default + Debug + Drop>(alloc: Global, state: &mut 
     let are_right = [
         is_early,
         is_committed,
+        state.change_handler().ensure_committed() == Ok(()),
         holds(are_removed(state, ids(alloc, "2,3"))),
         holds(are_added(state, ids(alloc, "1"))),
     ];
-    are_right == [true; 4]
+    are_right == [true; 5]
 }
 
 /// Whether the memberships of a node move as they should, without an allocation because they are
@@ -196,20 +206,25 @@ fn memberships_right<C: Numbered + Default + Debug + Drop>(
     alloc: Global,
     (from, same): &mut (State<C>, State<C>),
     news: &[Rc<Effective<C>>],
+    rows: &str,
 ) -> Result<bool, AllocError> {
     refuse_each(alloc);
-    let is_right = holds(move_right(from, same, news));
+    let is_right = holds(move_right(from, same, news, rows));
     let are_free = is_free(rt, alloc, "MembershipState, its moves and reads", is_right);
     Ok(are_free.unwrap_or(false) && apply_right(alloc, from))
 }
 
-/// Whether new memberships of a node do so.
-fn all_right<C: Numbered + Default + Debug + Drop>(rt: &impl Print, alloc: Global) -> bool {
+/// Whether new memberships of a node do so, with the moves of these rows.
+pub fn all_right<C: Numbered + Default + Debug + Drop>(
+    rt: &impl Print,
+    alloc: Global,
+    rows: &str,
+) -> bool {
     let states = both(state::<C>(alloc), state::<C>(alloc));
-    let held = both(states, news(alloc));
+    let held = both(states, news(alloc, rows));
     holds(on(
         held,
-        |held| memberships_right(rt, alloc, &mut held.0, &held.1),
+        |held| memberships_right(rt, alloc, &mut held.0, &held.1, rows),
     ))
 }
 
@@ -218,7 +233,7 @@ fn all_right<C: Numbered + Default + Debug + Drop>(rt: &impl Print, alloc: Globa
 #[test]
 fn memberships_move(rt: HostRuntime) -> Result<(), Fail> {
     let alloc = rt.alloc();
-    assert!(rt; all_right::<LeaderId<u64>>(&rt, alloc));
-    assert!(rt; all_right::<CommittedLeaderId>(&rt, alloc));
+    assert!(rt; all_right::<LeaderId<u64>>(&rt, alloc, MOVES));
+    assert!(rt; all_right::<CommittedLeaderId>(&rt, alloc, MOVES));
     Ok(())
 }

@@ -6,6 +6,7 @@
 
 use crate::accepted::accepts;
 use crate::catch_up::catches_up_right;
+use crate::compared_states::{changes_as, reads_as};
 use crate::io_state::takes_io;
 use crate::lives::{Plain, live};
 use crate::support::asserts::assert_row;
@@ -28,6 +29,7 @@ fn is_right_with<L: Eq + Copy + Drop, C: Numbered + Drop + 'static>(
     [test, row]: [&str; 2],
 ) -> Result<bool, AllocError> {
     match test {
+        "asks" => reads_as(alloc, state, row),
         "catches up" => catches_up_right(rt, alloc, state, other),
         "grows" => Ok(grows(rt, alloc, state)),
         "lacks" => has_before(alloc, state, row),
@@ -50,6 +52,7 @@ fn is_right<
 ) -> Result<bool, AllocError> {
     match test {
         "accepts" => Ok(accepts(rt, alloc, state)),
+        "changes" => changes_as(alloc, state, other, row),
         "is sound" => Ok(is_sound_as(state, L::new_leader(2, 1), row)),
         "leads" => Ok(leads(alloc, state, row)),
         "lives" => Ok(live(rt, alloc, state, plain, row)),
