@@ -232,6 +232,15 @@ impl<C: Ord + Copy> LogIdListOf<C> {
         keys::get(&self.key_log_ids, index)
     }
 
+    /// Returns the log id at an index, as `get` does. It looks between the last two keys first.
+    // Most log ids that a node looks up have the leader of the last one. The last two keys, if they
+    // share that leader, are the ends of its log ids.
+    pub(crate) fn get_from_end(&self, index: u64) -> Option<LogIdOf<C>>
+        ensures { result ≡ id_at (full_log self.now) index }
+    {
+        keys::get_from_end(&self.key_log_ids, index)
+    }
+
     /// Returns a range of indexes with one leader that has this index, if there is a log id at it.
     pub(crate) fn range_at(&self, index: u64) -> Option<LeaderRange<C>>
         ensures none { IfNone result (id_at (full_log self.now) index ≡ None) }

@@ -83,7 +83,7 @@ impl<NID: NodeId, N: Node, I: Instant, L: Drop, C: Ord + Copy + Drop> LogStateRe
     ghost log_view = { log_view_of };
 
     fn get_log_id(&self, index: u64) -> Option<LogIdOf<C>> {
-        self.log_ids.get(index)
+        self.log_ids.get_from_end(index)
     }
 
     fn last_log_id(&self) -> Option<&LogIdOf<C>> {

@@ -223,6 +223,29 @@ pub fn get<C: Ord + Copy>(keys: &[LogIdOf<C>], index: u64) -> Option<LogIdOf<C>>
     Some(LogIdOf::new(key.leader_id, index))
 }
 
+/// Returns the log id at an index, as `get` does. It looks between the last two keys first.
+pub fn get_from_end<C: Ord + Copy>(keys: &[LogIdOf<C>], index: u64) -> Option<LogIdOf<C>>
+    requires { IsTrue (may_be_keys C.cmp keys.now) }
+    ensures { result ≡ id_at (full_log keys.now) index }
+{
+    let count = keys.len();
+    if count < 2 {
+        return get(keys, index);
+    }
+    let before = keys[count - 2];
+    if index < before.index {
+        return get(keys, index);
+    }
+    let last = keys[count - 1];
+    if last.index < index {
+        return None;
+    }
+    if last.index == index {
+        return Some(last);
+    }
+    Some(LogIdOf::new(before.leader_id, index))
+}
+
 /// A range of indexes at which a log has log ids of one leader.
 #[derive(Clone, Copy)]
 pub struct LeaderRange<C> {
