@@ -97,7 +97,8 @@ impl<NID: NodeId, N: Node, V: ProgressPart<P>, P: Copy + Ord> Tracked<NID, N, V,
         ensures quorums { QuorumsHaveGranted self.new }
         ensures changed_quorums { ChangedQuorumsHaveGranted self.new }
     {
-        self.progress.write(id, value)
+        // Each voter of the membership's progress is one of its configs, so voters are counted.
+        self.progress.write(id, value, true)
     }
 }
 

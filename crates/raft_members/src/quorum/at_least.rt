@@ -93,6 +93,10 @@ impl<ID: Copy + Ord> QuorumSet<ID> for AtLeast<ID> {
         self.need
     }
 
+    fn deciding_size(&self) -> Option<usize> {
+        Some(self.need)
+    }
+
     fn ids(&self, alloc: Global) -> Result<Vec<ID>, AllocError> {
         Vec::from_slice(alloc, &self.ids)
     }

@@ -4,9 +4,10 @@ ghost use Rattle.std.specs.Fn.{AnyResult};
 ghost use Rattle.std.specs.Prelude.{◌≡◌, ◌||◌, ℕ, IfOk, OnOk};
 ghost use Rattle.std.specs.List.{IsDistinct, list_any, list_all};
 ghost use Rattle.std.specs.List.Sorted.{IsStrictlySortedBy};
+ghost use Rattle.std.specs.Option.{ForSome};
 ghost use Rattle.std.specs.Set.{is_member};
 ghost use Rattle.raft_members.specs.quorum.MajorityLawful.{list_all-weaker};
-ghost use Rattle.raft_members.specs.quorum.QuorumSize.{QuorumsHaveAtLeast, greatest};
+ghost use Rattle.raft_members.specs.quorum.QuorumSize.{QuorumsHaveAtLeast, SizeDecides, greatest};
 
 use super::joint::Joint;
 use super::quorum_set::QuorumSet;
@@ -33,6 +34,11 @@ impl<ID: Copy + Ord, QS: QuorumSet<ID>> QuorumSet<ID> for Joint<ID, QS, Vec<QS>>
         least_of_each(self.children(), |child| child.least_quorum_size())
     }
 
+    #[inline(always)]
+    fn deciding_size(&self) -> Option<usize> {
+        deciding_size_of_one(self.children())
+    }
+
     fn ids(&self, alloc: Global) -> Result<Vec<ID>, AllocError> {
         ids_of_each(alloc, self.children())
     }
@@ -56,6 +62,11 @@ impl<'a, ID: Copy + Ord, QS: QuorumSet<ID>> QuorumSet<ID> for Joint<ID, QS, &'a 
     #[inline(always)]
     fn least_quorum_size(&self) -> usize {
         least_of_each(self.children(), |child| child.least_quorum_size())
+    }
+
+    #[inline(always)]
+    fn deciding_size(&self) -> Option<usize> {
+        deciding_size_of_one(self.children())
     }
 
     fn ids(&self, alloc: Global) -> Result<Vec<ID>, AllocError> {
@@ -106,6 +117,19 @@ pub(crate) fn least_of_each<ID: Copy + Ord, QS: QuorumSet<ID>, F: Fn(&QS) -> usi
         greatest = size_of(child).max(greatest);
     }
     greatest
+}
+
+/// Returns the size that decides for a single child, if there is one.
+#[inline(always)]
+fn deciding_size_of_one<ID: Copy + Ord, QS: QuorumSet<ID>>(children: &[QS]) -> Option<usize>
+    ensures { ForSome result (SizeDecides ID.eq
+        (λ s. list_all (λ c. QS.has_quorum c s) children.now)
+        (λ x. list_any (λ c. QS.is_voter c x) children.now)) }
+{
+    match children {
+        [only] => only.deciding_size(),
+        _ => None,
+    }
 }
 
 /// Returns the voters of all children, each once, ascending.

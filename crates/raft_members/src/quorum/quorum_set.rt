@@ -1,9 +1,10 @@
 //! Quorum sets.
 ghost use Rattle.std.specs.Prelude.{◌≡◌, Bool, true, IfOk};
 ghost use Rattle.std.specs.List.{IsDistinct};
+ghost use Rattle.std.specs.Option.{ForSome};
 ghost use Rattle.std.specs.Set.{is_member};
 ghost use Rattle.std.specs.List.Sorted.{IsStrictlySortedBy};
-ghost use Rattle.raft_members.specs.quorum.QuorumSize.{QuorumsHaveAtLeast};
+ghost use Rattle.raft_members.specs.quorum.QuorumSize.{QuorumsHaveAtLeast, SizeDecides};
 
 use std::alloc::{AllocError, Global};
 
@@ -14,8 +15,8 @@ use std::alloc::{AllocError, Global};
 /// repeated ids can matter.
 ///
 /// To write your own quorum set, write the two functions `is_quorum` and `ids`, state what they
-/// compute as `has_quorum` and `is_voter`, and prove `superset`. The third function,
-/// `least_quorum_size`, has a default body.
+/// compute as `has_quorum` and `is_voter`, and prove `superset`. The other two functions,
+/// `least_quorum_size` and `deciding_size`, have default bodies.
 pub trait QuorumSet<ID: Copy + Ord>: Drop {
     /// Whether a set of ids is a quorum.
     ghost has_quorum: { Self → (ID → Bool) → Bool };
@@ -41,6 +42,19 @@ pub trait QuorumSet<ID: Copy + Ord>: Drop {
         ensures least { QuorumsHaveAtLeast ID.eq (has_quorum self.now) result }
     {
         0
+    }
+
+    /// Returns the size that decides, if there is one: distinct voters are a quorum exactly if there
+    /// are at least that many of them. The default body returns `None`.
+    ///
+    /// A caller that knows the size and counts voters need not call `is_quorum`. A list or a set of
+    /// voters and an `AtLeast` have such a size, and so has a joint of one of them. A joint of two
+    /// has none. Nothing is allocated.
+    fn deciding_size(&self) -> Option<usize>
+        ensures decides { ForSome result
+            (SizeDecides ID.eq (has_quorum self.now) (is_voter self.now)) }
+    {
+        None
     }
 
     /// Returns the voters, each once, ascending, or an allocation error.

@@ -38,6 +38,11 @@ impl<ID: Copy + Ord> QuorumSet<ID> for Vec<ID> {
         self.as_slice().least_quorum_size()
     }
 
+    #[inline(always)]
+    fn deciding_size(&self) -> Option<usize> {
+        Some(self.least_quorum_size())
+    }
+
     fn ids(&self, alloc: Global) -> Result<Vec<ID>, AllocError> {
         sorted_copies(alloc, self)
     }
@@ -64,6 +69,11 @@ impl<'a, ID: Copy + Ord> QuorumSet<ID> for &'a [ID] {
         self.len() / 2 + 1
     }
 
+    #[inline(always)]
+    fn deciding_size(&self) -> Option<usize> {
+        Some(self.least_quorum_size())
+    }
+
     fn ids(&self, alloc: Global) -> Result<Vec<ID>, AllocError> {
         sorted_copies(alloc, self)
     }
@@ -88,6 +98,11 @@ impl<ID: Copy + Ord> QuorumSet<ID> for BTreeSet<ID> {
         self.len() / 2 + 1
     }
 
+    #[inline(always)]
+    fn deciding_size(&self) -> Option<usize> {
+        Some(self.least_quorum_size())
+    }
+
     fn ids(&self, alloc: Global) -> Result<Vec<ID>, AllocError> {
         self.iter().copied().collect(alloc)
     }
@@ -107,6 +122,11 @@ impl<ID: Copy + Ord, T: QuorumSet<ID>> QuorumSet<ID> for Rc<T> {
 
     fn least_quorum_size(&self) -> usize {
         (**self).least_quorum_size()
+    }
+
+    #[inline(always)]
+    fn deciding_size(&self) -> Option<usize> {
+        (**self).deciding_size()
     }
 
     fn ids(&self, alloc: Global) -> Result<Vec<ID>, AllocError> {

@@ -14,6 +14,7 @@ pub mod OutcomeLemmas
 pub mod RefusalLemmas
 pub mod RunLemmas
 pub mod SettledLemmas
+pub mod SizeLemmas
 pub mod StatisticsLemmas
 pub mod StepLemmas
 pub mod ThresholdLemmas

@@ -1,11 +1,14 @@
 -- What the private steps of an update do.
-use Rattle.std.specs.Prelude.{◌≡◌, ℕ, ◌-◌, Bool, true, false, Option, Some, None, take, ◌&&◌, nat_lt}
+use Rattle.std.specs.Prelude.{◌≡◌, ℕ, ◌-◌, ◌<◌, Bool, true, false, Option, Some, None, take, ◌&&◌, nat_lt}
 use Rattle.std.specs.declared.cmp.Ordering.{Ordering}
 use Rattle.std.specs.Ordering.{is_le, is_lt}
 use Rattle.std.specs.List.{prefix_len}
+use Rattle.std.specs.Map.{keys_of}
+use Rattle.std.specs.Set.{is_member}
 use Rattle.std.proofs.Common.{get_or}
 use Rattle.raft_progress.specs.Inner.Recount.{exceeds}
 use Rattle.raft_progress.specs.Inner.Rises.{IsShortestPrefix, RisesTo}
+use Rattle.raft_progress.specs.progress.Entries.{IsFalling}
 use Rattle.raft_progress.specs.progress.ProgressView.{ProgressView}
 use Rattle.raft_progress.specs.progress.Statistics.{count_after}
 
@@ -41,6 +44,25 @@ module _ {ID V P QS : Type 0} (cmp : P → P → Ordering) (part : V → P) wher
     pub tests : new.stat.is_quorum_count ≡ old.stat.is_quorum_count
     pub moves : new.stat.move_count ≡ count_after old.stat.move_count 1
     pub rises : RisesTo cmp part old.entries position new.entries to
+
+-- each voter of the progress is a voter of its quorum set
+abbrev pub HasVotersOfSet : {ID V P QS : Type 0} → (ID → ID → Bool) → (QS → ID → Bool) → ProgressView ID V P QS → Type 0
+HasVotersOfSet {ID} eq is_voter p =
+    (x : ID) → is_member eq (take p.voter_count (keys_of p.entries)) x ≡ true → is_voter p.quorum_set x ≡ true
+
+module _ {ID V P QS : Type 0} (eq : ID → ID → Bool) (cmp : P → P → Ordering) (part : V → P)
+    (is_voter : QS → ID → Bool) where
+  -- the number of voters that have reached a part can be compared with a size that decides: they
+  -- are voters of the quorum set, and those past granted come first
+  pub record CanCount (p : ProgressView ID V P QS) : Type 0 where
+    pub voters : HasVotersOfSet eq is_voter p
+    pub falling : IsFalling cmp part p.granted (take p.voter_count p.entries)
+
+  -- they can be counted once the voter at a position, whose part is now `after`, has moved up
+  abbrev pub CanCountOnceRisen : ProgressView ID V P QS → ℕ → P → Type 0
+  CanCountOnceRisen old position after =
+      position < old.voter_count → is_lt (cmp old.granted after) ≡ true
+      → (to : ℕ) (new : ProgressView ID V P QS) → IsRisen cmp part old position to new → CanCount new
 
 module _ {ID V P QS : Type 0} (eq : ID → ID → Bool) (cmp : P → P → Ordering) (part : V → P)
     (has_quorum : QS → (ID → Bool) → Bool) where

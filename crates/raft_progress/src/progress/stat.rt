@@ -8,6 +8,6 @@ pub struct Stat {
     /// Updates in which a voter's part changed and exceeded what was granted before, including
     /// those in which the voter kept its position.
     pub move_count: u64,
-    /// Tests whether some voters are a quorum.
+    /// Tests whether some voters are a quorum. A decision by their number counts as one test.
     pub is_quorum_count: u64,
 }

@@ -1,10 +1,11 @@
 -- What is known of a progress that is in order by some proof.
-use Rattle.std.specs.Prelude.{◌≡◌, ℕ, ◌+◌, ◌<◌, ◌≤◌, Bool, true, false, List, [], ◌∷◌, Option, length, take}
+use Rattle.std.specs.Prelude.{◌≡◌, ℕ, ◌+◌, ◌<◌, ◌≤◌, ◌||◌, Bool, true, false, List, [], ◌∷◌, Option, length, map, take}
 use Rattle.std.specs.Ordering.{is_eq, is_lt}
 use Rattle.std.specs.declared.cmp.Ordering.{Ordering}
 use Rattle.std.specs.Cmp.{IsEquivalence, IsTotalOrder}
 use Rattle.std.specs.Coded.{Coded-set, coded_bool}
-use Rattle.std.specs.List.{IsDistinct, list_all}
+use Rattle.std.specs.List.{IsDistinct, list_all, list_any}
+use Rattle.std.specs.Set.{is_member}
 use Rattle.std.specs.Map.{keys_of}
 use Rattle.std.proofs.Common.{ap, arith, get_or, refl, subst, suc, sym, zero, ◌∙◌, true≢false}
 use mathlib.Core.Logic.{∥∥₁_elim, ∥∥₁_prop}
@@ -13,10 +14,11 @@ use Rattle.raft_progress.specs.progress.CountedValue.{IsCounted}
 use Rattle.raft_progress.specs.progress.InOrder.{IsInOrder}
 use Rattle.raft_progress.specs.Inner.Recount.{IsGreatest, at_least, reaches}
 use Rattle.raft_progress.specs.Inner.Conditions.{ids_differ, never_rises}
+use Rattle.raft_progress.specs.Inner.Settled.{HasVotersOfSet}
 use Rattle.raft_progress.specs.progress.ProgressView.{ProgressView, state}
 use Rattle.raft_progress.specs.progress.Answered.{IsAnswered}
 use Rattle.raft_progress.specs.progress.Steps.{IsIncreased, IsWritten}
-use Rattle.raft_progress.specs.tracked.TrackedState.{Configs, IsReady, TrackedView, has_quorum}
+use Rattle.raft_progress.specs.tracked.TrackedState.{Configs, IsReady, TrackedView, has_quorum, is_voter}
 use Rattle.raft_progress.specs.declared.progress.steps.Reply.{Reply}
 use Rattle.raft_progress.proofs.lemmas.progress.recount.CountedAfreshLemmas.{IsCounted-from_greatest}
 use Rattle.raft_progress.proofs.lemmas.progress.InOrderLemmas.{
@@ -115,6 +117,17 @@ ready_of {eq = eq} laws id_cmp {cmp} o part lists t h = record {
     known = λ id. ∥∥₁_elim h (Coded-set coded_bool _ _) (λ r. r.counts_by.known id);
   };
 }
+
+any_mapped : {X Y : Type 0} (f : X → Y) (p : Y → Bool) (xs : List X) → list_any p (map f xs) ≡ list_any (λ x. p (f x)) xs
+any_mapped f p [] = refl
+any_mapped f p (x ∷ xs) = ap (λ b. p (f x) || b) (any_mapped f p xs)
+
+-- each voter of a ready progress is one of its configs
+pub has_voters_of_set : {K N V P : Type 0} {eq : K → K → Bool} {id_cmp : K → K → Ordering} {cmp : P → P → Ordering} {part : V → P}
+    (t : TrackedView K N V P) → IsReady eq id_cmp cmp part t → HasVotersOfSet eq (is_voter eq) t.progress
+has_voters_of_set {eq = eq} t r x m =
+    sym (any_mapped (λ c. c.items) (λ c. is_member eq c x) t.progress.quorum_set.items)
+    ∙ ap (list_any (λ c. is_member eq c x)) r.counts_by.configs ∙ sym (r.counts_by.voters x) ∙ m
 
 -- a step that keeps the membership is one of both
 pub answered_tracked : {K N V P : Type 0} (Done : ProgressView K V P (Configs K) → Type 0) (old : TrackedView K N V P) (reply : Reply K P)

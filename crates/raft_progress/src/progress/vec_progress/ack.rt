@@ -1,6 +1,7 @@
 //! How a follower's acknowledgement is taken in place.
 ghost use Rattle.std.specs.Option.{option_cmp};
 ghost use Rattle.raft_base.specs.LogId.{log_id_cmp};
+ghost use Rattle.raft_progress.specs.Inner.Settled.{HasVotersOfSet};
 ghost use Rattle.raft_progress.specs.Inner.ViewAnswers.{IsViewWrite};
 ghost use Rattle.raft_progress.specs.declared.progress.steps.Reply.TheVariants.{Granted};
 ghost use Rattle.raft_progress.specs.entry.EntryTable.{entry_after_ack};
@@ -21,8 +22,8 @@ impl<ID: Copy + Ord, C: Ord + Copy, QS: QuorumSet<ID>> VecProgress<
     Option<LogIdOf<C>>,
     QS,
 > {
-    /// Takes the response that a follower has all logs up to a log id, and recomputes granted. The
-    /// result is `None` for an unknown id.
+    /// Takes the response that a follower has all logs up to a log id, and recomputes granted by
+    /// counting voters. The result is `None` for an unknown id.
     // One look-up serves the read and the write, and the entry is changed in place.
     #[inline(always)]
     pub(crate) fn acknowledge(
@@ -31,8 +32,9 @@ impl<ID: Copy + Ord, C: Ord + Copy, QS: QuorumSet<ID>> VecProgress<
         request_id: u64,
         matching: Option<LogIdOf<C>>,
     ) -> Option<Result<(), InflightError>>
-        requires { IsInOrder ID.eq (option_cmp (log_id_cmp C.cmp)) (λ e. e.matching) QS.has_quorum
-            (view self.old) }
+        requires ordered { IsInOrder ID.eq (option_cmp (log_id_cmp C.cmp)) (λ e. e.matching)
+            QS.has_quorum (view self.old) }
+        requires voters { HasVotersOfSet ID.eq QS.is_voter (view self.old) }
         ensures step { IsResponse ((state ID.eq (view self.old)).value id.now)
             (λ entry. entry_after_ack C.cmp entry request_id matching)
             (λ next. IsViewWrite ID.eq (option_cmp (log_id_cmp C.cmp)) (λ e. e.matching) QS.has_quorum
@@ -52,7 +54,7 @@ impl<ID: Copy + Ord, C: Ord + Copy, QS: QuorumSet<ID>> VecProgress<
             return Some(Err(refused));
         }
         self.stat.update_count = self.stat.update_count.saturating_add(1);
-        self.restore_order(position, before, matching);
+        self.restore_order(position, before, matching, true);
         Some(Ok(()))
     }
 }

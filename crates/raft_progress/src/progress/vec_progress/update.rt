@@ -1,11 +1,12 @@
 //! How a value is written, and how granted is recomputed.
 ghost use Rattle.std.specs.Prelude.{◌≡◌, ◌≤◌, ◌<◌, Some, is_some, length, slice_get, true};
+ghost use Rattle.raft_members.specs.quorum.QuorumSize.{SizeDecides};
 ghost use Rattle.std.specs.Fn.{FnOnceTakesAtMut};
 ghost use Rattle.std.specs.List.{IsDistinct};
 ghost use Rattle.std.specs.Map.{keys_of};
 ghost use Rattle.std.specs.Option.{ForSome};
 ghost use Rattle.std.specs.Ordering.{is_lt};
-ghost use Rattle.raft_progress.specs.Inner.Settled.{IsPutInOrder, IsRisen, IsScanned};
+ghost use Rattle.raft_progress.specs.Inner.Settled.{CanCount, CanCountOnceRisen, HasVotersOfSet, IsPutInOrder, IsRisen, IsScanned};
 ghost use Rattle.raft_progress.specs.Inner.ViewAnswers.{IsViewWrite};
 ghost use Rattle.raft_progress.specs.progress.InOrder.{IsInOrder};
 ghost use Rattle.raft_progress.specs.progress.Lends.{Leaves};
@@ -47,19 +48,23 @@ impl<ID: Copy + Ord, V: ProgressPart<P>, P: Copy + Ord, QS: QuorumSet<ID>> VecPr
                 let before = entry.1.part();
                 f(&mut entry.1);
                 let after = entry.1.part();
-                self.restore_order(position, before, after);
+                // Other ids may have been written through `iter_mut`, so it is not known that each
+                // voter is one of the quorum set, and quorums are tested.
+                self.restore_order(position, before, after, false);
                 true
             }
             None => false,
         }
     }
 
-    /// Writes the value of an id, unless its part is below the present one. Returns the reply.
+    /// Writes the value of an id, unless its part is below the present one. Returns the reply. If
+    /// `counts` holds, voters may be counted in place of quorum tests.
     // One look-up serves the test and the write. The value is moved once, and the closure of an
     // update would move it twice.
     #[inline(always)]
-    pub(crate) fn write(&mut self, id: &ID, value: V) -> Reply<ID, P>
-        requires { IsInOrder ID.eq P.cmp V.part_of QS.has_quorum (view self.old) }
+    pub(crate) fn write(&mut self, id: &ID, value: V, counts: bool) -> Reply<ID, P>
+        requires ordered { IsInOrder ID.eq P.cmp V.part_of QS.has_quorum (view self.old) }
+        requires voters { counts ≡ true → HasVotersOfSet ID.eq QS.is_voter (view self.old) }
         ensures step { IsViewWrite ID.eq P.cmp V.part_of QS.has_quorum
             (view self.old) id.now value result (view self.new) }
         ensures ordered { IsInOrder ID.eq P.cmp V.part_of QS.has_quorum (view self.new) }
@@ -78,20 +83,22 @@ impl<ID: Copy + Ord, V: ProgressPart<P>, P: Copy + Ord, QS: QuorumSet<ID>> VecPr
         }
         entry.1 = value;
         self.stat.update_count = self.stat.update_count.saturating_add(1);
-        self.restore_order(position, before, after);
+        self.restore_order(position, before, after, counts);
         Reply::Granted(self.granted)
     }
 
     /// Restores the order and recomputes granted, after the part of the value at a position went
-    /// from `before` to `after`.
+    /// from `before` to `after`. If `counts` holds, voters may be counted in place of quorum tests.
     // Only a voter whose part has risen past granted moves up. Granted can rise only if the part
     // was at most granted before.
     #[inline(always)]
-    pub(super) fn restore_order(&mut self, position: usize, before: P, after: P)
+    pub(super) fn restore_order(&mut self, position: usize, before: P, after: P, counts: bool)
         requires within { position < length (view self.old).entries }
         requires at { (e : ID × V) → slice_get (view self.old).entries position ≡ Some e →
             after ≡ V.part_of e.1 }
         requires distinct { IsDistinct ID.eq (keys_of (view self.old).entries) }
+        requires can_count { counts ≡ true →
+            CanCountOnceRisen ID.eq P.cmp V.part_of QS.is_voter (view self.old) position after }
         ensures { IsPutInOrder ID.eq P.cmp V.part_of QS.has_quorum
             (view self.old) position before (view self.new) }
     {
@@ -107,7 +114,7 @@ impl<ID: Copy + Ord, V: ProgressPart<P>, P: Copy + Ord, QS: QuorumSet<ID>> VecPr
         }
         let to = self.move_voter_up(position);
         if passes_granted {
-            self.find_granted(to);
+            self.find_granted(to, counts);
         }
     }
 
@@ -129,7 +136,52 @@ impl<ID: Copy + Ord, V: ProgressPart<P>, P: Copy + Ord, QS: QuorumSet<ID>> VecPr
     /// Grants the last part of the shortest prefix past a position that is a quorum and whose parts
     /// exceed granted, if there is one.
     #[inline(always)]
-    fn find_granted(&mut self, position: usize)
+    fn find_granted(&mut self, position: usize, counts: bool)
+        requires within { position < (view self.old).voter_count }
+        requires distinct { IsDistinct ID.eq (keys_of (view self.old).entries) }
+        requires can_count { counts ≡ true →
+            CanCount ID.eq P.cmp V.part_of QS.is_voter (view self.old) }
+        ensures { IsScanned ID.eq P.cmp V.part_of QS.has_quorum
+            (view self.old) position (view self.new) }
+    {
+        if counts {
+            if let Some(size) = self.quorum_set.deciding_size() {
+                self.grant_by_size(position, size);
+                return;
+            }
+        }
+        self.search_granted(position);
+    }
+
+    /// Grants the last part of the shortest prefix past a position that has as many voters as
+    /// decide, if its parts exceed granted. This counts as one quorum test.
+    #[inline(always)]
+    fn grant_by_size(&mut self, position: usize, size: usize)
+        requires within { position < (view self.old).voter_count }
+        requires distinct { IsDistinct ID.eq (keys_of (view self.old).entries) }
+        requires can_count { CanCount ID.eq P.cmp V.part_of QS.is_voter (view self.old) }
+        requires decides { SizeDecides ID.eq (QS.has_quorum (view self.old).quorum_set)
+            (QS.is_voter (view self.old).quorum_set) size }
+        ensures { IsScanned ID.eq P.cmp V.part_of QS.has_quorum
+            (view self.old) position (view self.new) }
+    {
+        // This read is for the proof: it shows that the count fits a u64.
+        let _count = self.stat.is_quorum_count;
+        let last = size.saturating_sub(1).max(position);
+        if last >= self.voter_count {
+            return;
+        }
+        let part = self.entries[last].1.part();
+        if !is_below(&self.granted, &part) {
+            return;
+        }
+        self.stat.is_quorum_count = self.stat.is_quorum_count.saturating_add(1);
+        self.granted = part;
+    }
+
+    /// Grants what `find_granted` does, by quorum tests.
+    #[inline(always)]
+    fn search_granted(&mut self, position: usize)
         requires within { position < (view self.old).voter_count }
         requires distinct { IsDistinct ID.eq (keys_of (view self.old).entries) }
         ensures { IsScanned ID.eq P.cmp V.part_of QS.has_quorum

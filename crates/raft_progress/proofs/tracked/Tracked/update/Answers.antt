@@ -3,12 +3,17 @@ use Rattle.std.proofs.Common.{refl}
 use Rattle.raft_progress.specs.progress.VecProgress.{view}
 use Rattle.raft_progress.specs.tracked.Tracked.{tracked_view}
 use Rattle.raft_progress.proofs.lemmas.tracked.HeadlineLemmas.{each_quorum_knows}
-use Rattle.raft_progress.proofs.lemmas.tracked.ReadyLemmas.{ready_of, ready_written}
+use Rattle.raft_progress.proofs.lemmas.tracked.ReadyLemmas.{has_voters_of_set, ready_of, ready_written}
 use Rattle.raft_progress.proofs.tracked.Tracked.update.Goals as goal
 
-pub write-requires : goal.write-requires
-write-requires g c = (ready_of g.met.NID.Eq.laws g.NID.Ord.cmp g.met.P.Ord.total g.V.ProgressPart.part_of
+pub write-requires-clause-ordered : goal.write-requires-clause-ordered
+write-requires-clause-ordered g c = (ready_of g.met.NID.Eq.laws g.NID.Ord.cmp g.met.P.Ord.total g.V.ProgressPart.part_of
     (Coded-set (coded_list (coded_list g.row.NID.coded))) (tracked_view c.args.self.now) c.args.self.now.ready).ordered
+
+pub write-requires-clause-voters : goal.write-requires-clause-voters
+write-requires-clause-voters g c = λ counts. has_voters_of_set (tracked_view c.args.self.now)
+    (ready_of g.met.NID.Eq.laws g.NID.Ord.cmp g.met.P.Ord.total g.V.ProgressPart.part_of
+    (Coded-set (coded_list (coded_list g.row.NID.coded))) (tracked_view c.args.self.now) c.args.self.now.ready)
 
 pub returns-clause-ready : goal.returns-clause-ready
 returns-clause-ready g c = ready_written g.met.NID.Eq.laws g.NID.Ord.cmp g.met.P.Ord.total g.V.ProgressPart.part_of

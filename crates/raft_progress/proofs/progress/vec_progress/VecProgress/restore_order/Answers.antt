@@ -55,6 +55,12 @@ find_granted-requires-clause-distinct g c =
     (distinct_moved g.met.ID.Eq.laws p.prefix p.passed p.entry p.rest
     (subst (λ (es : List (g.row.ID.Denot × g.row.V.Denot)). IsDistinct g.ID.PartialEq.eq (keys_of es)) p.was c.requires.distinct))
 
+pub find_granted-requires-clause-can_count : goal.find_granted-requires-clause-can_count
+find_granted-requires-clause-can_count g c = λ counts.
+    let high : is_lt (g.P.Ord.cmp c.args.self.now.granted c.args.after) ≡ true = cc in
+    c.requires.can_count counts c.if-position-self.false high c.move_voter_up-to.result (view c.move_voter_up-to.new.self)
+    c.move_voter_up-to.ensures.risen
+
 pub returns-then-not-is_below-2 : goal.returns-then-not-is_below-2
 returns-then-not-is_below-2 g c =
     let e = element_at c.args.self.now.entries.items c.args.position c.requires.within in

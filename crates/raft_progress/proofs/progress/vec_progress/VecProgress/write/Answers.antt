@@ -5,6 +5,7 @@ use Rattle.std.proofs.Math.ListN.{length-set}
 use Rattle.std.proofs.lemmas.List.{get_or-set_same, set-get_or}
 use Rattle.std.proofs.lemmas.List.Quantifiers.{position-Some}
 use Rattle.std.proofs.lemmas.Option.{get_or_from_slice_get, slice_get_read}
+use Rattle.raft_progress.specs.Inner.Settled.{CanCountOnceRisen}
 use Rattle.raft_progress.specs.progress.ProgressState.{IsSame}
 use Rattle.raft_progress.specs.progress.ProgressView.{ProgressView, state}
 use Rattle.raft_progress.specs.progress.Updated.{IsSettled}
@@ -12,6 +13,7 @@ use Rattle.raft_progress.specs.progress.VecProgress.{view}
 use Rattle.raft_progress.proofs.lemmas.ListLemmas.{some_inside}
 use Rattle.raft_progress.proofs.lemmas.OrderLemmas.{AtMost-refl, AtMost-from_not_lt}
 use Rattle.raft_progress.proofs.lemmas.progress.OutcomeLemmas.{outcome}
+use Rattle.raft_progress.proofs.lemmas.progress.SizeLemmas.{counts_once_risen}
 use Rattle.raft_progress.proofs.lemmas.progress.UpdateLemmas.{IsSame-refl, was, wrote}
 use Rattle.raft_progress.proofs.lemmas.progress.positions.PositionsLemmas.{keys_written}
 use Rattle.raft_progress.proofs.lemmas.progress.entries.EntriesLemmas.{lookup_absent, no_value}
@@ -22,7 +24,7 @@ returns-in_default-clause-step g c =
     let p = c.args.self.now in
     let gone = lookup_absent (g.ID.PartialEq.eq c.args.id.now) p.entries.items (sym c.index.ensures ∙ c.in_default.is) in
     record {
-      values = (gone, c.requires.counted, IsSame-refl (state g.ID.PartialEq.eq (view p)));
+      values = (gone, c.requires.ordered.counted, IsSame-refl (state g.ID.PartialEq.eq (view p)));
       answered = record {
         refused = λ r. absurd (true≢false (sym r));
         done = λ r. record {
@@ -102,7 +104,33 @@ restore_order-requires-clause-distinct g c =
     let found = sym c.in-Some.ensures in
     let within = (position-Some (λ (f : g.row.ID.Denot × g.row.V.Denot). g.ID.PartialEq.eq c.args.id.now f.0) ws position e found).0 in
     let at = slice_get_read ws (length ws) position e refl within c.index_mut-entry.ensures.value in
-    subst (IsDistinct g.ID.PartialEq.eq) (sym (keys_written ws position e c.args.value at)) c.requires.distinct
+    subst (IsDistinct g.ID.PartialEq.eq) (sym (keys_written ws position e c.args.value at)) c.requires.ordered.distinct
+
+pub restore_order-requires-clause-can_count : goal.restore_order-requires-clause-can_count
+restore_order-requires-clause-can_count g c = λ counts.
+    let p = c.args.self.now in
+    let ws = p.entries.items in
+    let position = c.in-Some.position in
+    let value = c.args.value in
+    let e = c.index_mut-entry.result.now in
+    let found = sym c.in-Some.ensures in
+    let within = (position-Some (λ (f : g.row.ID.Denot × g.row.V.Denot). g.ID.PartialEq.eq c.args.id.now f.0) ws position e found).0 in
+    let at = slice_get_read ws (length ws) position e refl within c.index_mut-entry.ensures.value in
+    let rises : is_lt (g.P.Ord.cmp (g.V.ProgressPart.part_of value) (g.V.ProgressPart.part_of e.1)) ≡ false =
+    sym (c.is_below.ensures ∙ ap (λ q. is_lt (g.P.Ord.cmp q c.part-before.result)) c.part-after.ensures
+    ∙ ap (λ q. is_lt (g.P.Ord.cmp (g.V.ProgressPart.part_of value) q)) c.part-before.ensures) ∙ c.if-is_below.false in
+    let written : ProgressView g.row.ID.Denot g.row.V.Denot g.row.P.Denot g.row.QS.Denot = record (view p) {
+      entries = set ws position (e.0, value);
+      stat = record p.stat { update_count = c.saturating_add-self-2.result };
+    } in
+    subst (λ (a : g.row.P.Denot). CanCountOnceRisen g.ID.PartialEq.eq g.P.Ord.cmp g.V.ProgressPart.part_of g.QS.QuorumSet.is_voter written
+    position a) (sym c.part-after.ensures)
+    (counts_once_risen g.met.ID.Eq.laws g.met.P.Ord.total g.V.ProgressPart.part_of g.QS.QuorumSet.has_quorum
+    g.met.QS.QuorumSet.superset g.QS.QuorumSet.is_voter written ws c.requires.ordered c.args.id.now position e found
+    c.index_mut-entry.ensures.value value
+    (AtMost-from_not_lt g.met.P.Ord.total (g.V.ProgressPart.part_of value) (g.V.ProgressPart.part_of e.1) rises) refl
+    (was g.met.ID.Eq.laws ws c.args.id.now position e found at) (wrote g.met.ID.Eq.laws ws c.args.id.now position e found at value)
+    (c.requires.voters counts))
 
 pub returns : goal.returns
 returns g c =
@@ -125,7 +153,7 @@ returns g c =
     } in
     let oc = outcome g.met.ID.Eq.laws g.met.P.Ord.total g.V.ProgressPart.part_of g.QS.QuorumSet.has_quorum g.met.QS.QuorumSet.superset
     written
-    (view c.restore_order.new.self) ws c.requires c.args.id.now position e found c.index_mut-entry.ensures.value value
+    (view c.restore_order.new.self) ws c.requires.ordered c.args.id.now position e found c.index_mut-entry.ensures.value value
     (AtMost-from_not_lt g.met.P.Ord.total (g.V.ProgressPart.part_of value) (g.V.ProgressPart.part_of e.1) rises) refl present
     (wrote g.met.ID.Eq.laws ws c.args.id.now position e found at value) c.part-before.result c.part-before.ensures fits
     c.restore_order.ensures in

@@ -6,13 +6,19 @@ use Rattle.raft_progress.specs.progress.VecProgress.{view}
 use Rattle.raft_progress.specs.tracked.Tracked.{tracked_view}
 use Rattle.raft_progress.specs.declared.entry.ProgressEntryOf.{ProgressEntryOf}
 use Rattle.raft_progress.proofs.lemmas.tracked.FollowerLemmas.{acknowledged, ready_acknowledged}
-use Rattle.raft_progress.proofs.lemmas.tracked.ReadyLemmas.{ready_of}
+use Rattle.raft_progress.proofs.lemmas.tracked.ReadyLemmas.{has_voters_of_set, ready_of}
 use Rattle.raft_progress.proofs.tracked.followers.Tracked+NID+N+ProgressEntryOf+C+Option+LogIdOf+C.acknowledge.Goals as goal
 
-pub acknowledge-requires : goal.acknowledge-requires
-acknowledge-requires g c = (ready_of g.met.NID.Eq.laws g.NID.Ord.cmp (optional-log_id_cmp-total g.met.C.Ord.total)
+pub acknowledge-requires-clause-ordered : goal.acknowledge-requires-clause-ordered
+acknowledge-requires-clause-ordered g c = (ready_of g.met.NID.Eq.laws g.NID.Ord.cmp (optional-log_id_cmp-total g.met.C.Ord.total)
     (λ (e : ProgressEntryOf g.row.C.Denot). e.matching) (Coded-set (coded_list (coded_list g.row.NID.coded)))
     (tracked_view c.args.self.now) c.args.self.now.ready).ordered
+
+pub acknowledge-requires-clause-voters : goal.acknowledge-requires-clause-voters
+acknowledge-requires-clause-voters g c = has_voters_of_set (tracked_view c.args.self.now)
+    (ready_of g.met.NID.Eq.laws g.NID.Ord.cmp (optional-log_id_cmp-total g.met.C.Ord.total)
+    (λ (e : ProgressEntryOf g.row.C.Denot). e.matching) (Coded-set (coded_list (coded_list g.row.NID.coded)))
+    (tracked_view c.args.self.now) c.args.self.now.ready)
 
 pub invariant_of-self : goal.invariant_of-self
 invariant_of-self g c = record {

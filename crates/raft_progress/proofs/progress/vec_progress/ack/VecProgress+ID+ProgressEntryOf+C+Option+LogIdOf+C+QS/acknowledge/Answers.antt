@@ -8,6 +8,7 @@ use Rattle.std.proofs.lemmas.List.Quantifiers.{position-Some}
 use Rattle.std.proofs.lemmas.Option.{get_or_from_slice_get, slice_get_read}
 use Rattle.raft_base.specs.LogId.{log_id_cmp}
 use Rattle.raft_base.specs.LogIdLawful.{optional-log_id_cmp-total}
+use Rattle.raft_progress.specs.Inner.Settled.{CanCountOnceRisen}
 use Rattle.raft_progress.specs.entry.EntryTable.{entry_after_ack}
 use Rattle.raft_progress.specs.progress.InOrder.{IsInOrder}
 use Rattle.raft_progress.specs.progress.ProgressView.{ProgressView}
@@ -18,6 +19,7 @@ use Rattle.raft_progress.proofs.lemmas.ListLemmas.{some_inside}
 use Rattle.raft_progress.proofs.lemmas.OrderLemmas.{not_lt-from_AtMost}
 use Rattle.raft_progress.proofs.lemmas.entry.ResponseLemmas.{refused_by, taken_by}
 use Rattle.raft_progress.proofs.lemmas.progress.OutcomeLemmas.{outcome}
+use Rattle.raft_progress.proofs.lemmas.progress.SizeLemmas.{counts_once_risen}
 use Rattle.raft_progress.proofs.lemmas.progress.UpdateLemmas.{was, wrote}
 use Rattle.raft_progress.proofs.lemmas.progress.entries.EntriesLemmas.{lookup_absent, no_value}
 use Rattle.raft_progress.proofs.lemmas.progress.positions.PositionsLemmas.{keys_written}
@@ -66,7 +68,7 @@ returns-in-Err-clause-step g c =
 pub returns-in-Err-clause-ordered : goal.returns-in-Err-clause-ordered
 returns-in-Err-clause-ordered g c =
     subst (IsInOrder g.ID.PartialEq.eq (option_cmp (log_id_cmp g.C.Ord.cmp)) (λ (v : ProgressEntryOf g.row.C.Denot). v.matching)
-    g.QS.QuorumSet.has_quorum) (sym (returns-in-Err-clause-step g c).3) c.requires
+    g.QS.QuorumSet.has_quorum) (sym (returns-in-Err-clause-step g c).3) c.requires.ordered
 
 pub invariant_of-self-2 : goal.invariant_of-self-2
 invariant_of-self-2 g c =
@@ -106,7 +108,32 @@ restore_order-requires-clause-distinct g c =
     let within = (position-Some (λ (f : g.row.ID.Denot × ProgressEntryOf g.row.C.Denot). g.ID.PartialEq.eq c.args.id.now f.0) ws position e
     found).0 in
     let at = slice_get_read ws (length ws) position e refl within c.index_mut-entry.ensures.value in
-    subst (IsDistinct g.ID.PartialEq.eq) (sym (keys_written ws position e c.update_matching.new.self at)) c.requires.distinct
+    subst (IsDistinct g.ID.PartialEq.eq) (sym (keys_written ws position e c.update_matching.new.self at)) c.requires.ordered.distinct
+
+pub restore_order-requires-clause-can_count : goal.restore_order-requires-clause-can_count
+restore_order-requires-clause-can_count g c = λ counts.
+    let p = c.args.self.now in
+    let ws = p.entries.items in
+    let position = c.in-Some.position in
+    let e = c.index_mut-entry.result.now in
+    let value = c.update_matching.new.self in
+    let cmp = option_cmp (log_id_cmp g.C.Ord.cmp) in
+    let total = optional-log_id_cmp-total g.met.C.Ord.total in
+    let found = sym c.in-Some.ensures in
+    let within = (position-Some (λ (f : g.row.ID.Denot × ProgressEntryOf g.row.C.Denot). g.ID.PartialEq.eq c.args.id.now f.0) ws position e
+    found).0 in
+    let at = slice_get_read ws (length ws) position e refl within c.index_mut-entry.ensures.value in
+    let written : ProgressView g.row.ID.Denot (ProgressEntryOf g.row.C.Denot) _ g.row.QS.Denot = record (view p) {
+      entries = set ws position (e.0, value);
+      stat = record p.stat { update_count = c.saturating_add-self.result };
+    } in
+    subst (CanCountOnceRisen g.ID.PartialEq.eq cmp (λ (v : ProgressEntryOf g.row.C.Denot). v.matching) g.QS.QuorumSet.is_voter written
+    position) c.in_default-update_matching.ensures.matched
+    (counts_once_risen g.met.ID.Eq.laws total (λ (v : ProgressEntryOf g.row.C.Denot). v.matching) g.QS.QuorumSet.has_quorum
+    g.met.QS.QuorumSet.superset g.QS.QuorumSet.is_voter written ws c.requires.ordered c.args.id.now position e found
+    c.index_mut-entry.ensures.value value c.update_matching.ensures.monotone refl
+    (was g.met.ID.Eq.laws ws c.args.id.now position e found at) (wrote g.met.ID.Eq.laws ws c.args.id.now position e found at value)
+    c.requires.voters)
 
 pub returns : goal.returns
 returns g c =
@@ -132,7 +159,7 @@ returns g c =
       stat = record p.stat { update_count = c.saturating_add-self.result };
     } in
     let oc = outcome g.met.ID.Eq.laws total (λ (v : ProgressEntryOf g.row.C.Denot). v.matching) g.QS.QuorumSet.has_quorum
-    g.met.QS.QuorumSet.superset written (view c.restore_order.new.self) ws c.requires c.args.id.now position e found
+    g.met.QS.QuorumSet.superset written (view c.restore_order.new.self) ws c.requires.ordered c.args.id.now position e found
     c.index_mut-entry.ensures.value value above refl present
     (wrote g.met.ID.Eq.laws ws c.args.id.now position e found at value) e.1.matching refl fits c.restore_order.ensures in
     record {

@@ -8,7 +8,7 @@ use Rattle.raft_progress.specs.progress.VecProgress.{view}
 use Rattle.raft_progress.proofs.lemmas.progress.entries.ShortPrefixLemmas.{lead_ends, not_scanned, scanned_from}
 use Rattle.raft_progress.proofs.lemmas.ListLemmas.{length_take_le}
 use Rattle.raft_progress.proofs.lemmas.progress.UpdateLemmas.{IsDistinct-voters}
-use Rattle.raft_progress.proofs.progress.vec_progress.VecProgress.find_granted.Goals as goal
+use Rattle.raft_progress.proofs.progress.vec_progress.VecProgress.search_granted.Goals as goal
 use Rattle.std.proofs.lemmas.List.{get_or-take}
 use Rattle.std.proofs.lemmas.Option.{get_or_from_slice_get}
 
