@@ -939,13 +939,13 @@ def mutants_of_rules():
 
 
 def recorded_calls():
-    """Returns how many calls of the original are recorded: the rows in files `compared.rt`.
+    """Returns how many calls of the original are recorded: the rows in files `compared.rt` and `compared_states.rt`.
 
-    A row may go on in the next line.
+    A row may go on in the next line, and an empty line is none.
     """
-    texts = [path.read_text() for path in CRATES.glob("*_tests/src/**/compared.rt")]
+    texts = [path.read_text() for path in CRATES.glob("*_tests/src/**/compared*.rt")]
     tables = [table for text in texts for table in re.findall(r'&str = "\n(.*?)^";', text, re.M | re.S)]
-    return sum(table.replace("\\\n", "").count("\n") for table in tables)
+    return sum(1 for table in tables for row in table.replace("\\\n", "").splitlines() if row)
 
 
 # What documents say, with N for a number in figures or as a word, and how the number is counted.
