@@ -3,7 +3,23 @@ use Rattle.std.specs.Prelude.{◌≡◌, ◌⊎◌, ◌<◌, ℕ, Bool, true, fa
 use Rattle.std.specs.List.{list_any}
 use Rattle.std.specs.Result.{MatchResult}
 use Rattle.raft_safety.specs.Log.{Entry}
-use Rattle.raft_safety.specs.Trace.{same_entry, broken_rule, TraceEvent, Campaigned, Granted, Appended, Acked, Restarted, Wrote, Committed, Applied, Tests, AreExact, is_known_committed, are_allowed}
+use Rattle.raft_safety.specs.Trace.{
+  same_entry,
+  broken_rule,
+  TraceEvent,
+  Campaigned,
+  Granted,
+  Appended,
+  Acked,
+  Restarted,
+  Wrote,
+  Committed,
+  Applied,
+  Tests,
+  AreExact,
+  is_known_committed,
+  are_allowed,
+}
 use Rattle.raft_safety.specs.Inner.CheckerState.{config_in, knows}
 use Rattle.raft_safety.specs.Inner.Seen.{SeesServers, SeesLeaders}
 use Rattle.raft_safety.specs.declared.checker.server.Server.{Server}
@@ -12,7 +28,16 @@ use Rattle.raft_safety.specs.declared.checker.violation.Violation.{Violation}
 use Rattle.raft_safety.specs.declared.checker.violation.Violation.TheVariants.{OutOfMemory, Rule as BreaksRule}
 use Rattle.raft_safety.specs.declared.checker.Checker.{Checker}
 use Rattle.raft_safety.specs.declared.event.Event.{Event as RecordedEvent}
-use Rattle.raft_safety.specs.declared.event.Event.TheVariants.{Campaigned as RecordedCampaign, Granted as RecordedGrant, Appended as RecordedAppend, Acked as RecordedAck, Restarted as RecordedRestart, Wrote as RecordedWrite, Committed as RecordedCommit, Applied as RecordedApply}
+use Rattle.raft_safety.specs.declared.event.Event.TheVariants.{
+  Campaigned as RecordedCampaign,
+  Granted as RecordedGrant,
+  Appended as RecordedAppend,
+  Acked as RecordedAck,
+  Restarted as RecordedRestart,
+  Wrote as RecordedWrite,
+  Committed as RecordedCommit,
+  Applied as RecordedApply,
+}
 use Rattle.std.specs.declared.cmp.PartialEq as eq_ghosts
 use Rattle.raft_safety.specs.declared.checker.configs.Configs as config_ghosts
 use Rattle.raft_safety.specs.declared.rule.Rule.{Rule}

@@ -1,6 +1,29 @@
 -- Lists of recorded events without an order between them, and the traces that interleave them.
 -- `placed` has a number for each list: so many of its first events are placed in the trace.
-use Rattle.std.specs.Prelude.{◌≡◌, ◌≢◌, ◌⊎◌, ◌+◌, ◌<◌, ◌≤◌, ℕ, true, false, Some, None, Option, Result, Bool, List, [], ◌∷◌, length, map, set, replicate, slice_get}
+use Rattle.std.specs.Prelude.{
+  ◌≡◌,
+  ◌≢◌,
+  ◌⊎◌,
+  ◌+◌,
+  ◌<◌,
+  ◌≤◌,
+  ℕ,
+  true,
+  false,
+  Some,
+  None,
+  Option,
+  Result,
+  Bool,
+  List,
+  [],
+  ◌∷◌,
+  length,
+  map,
+  set,
+  replicate,
+  slice_get,
+}
 use Rattle.std.specs.Result.{MatchResult}
 use Rattle.std.specs.Global.{Vec}
 use Rattle.raft_safety.specs.Trace.{TraceEvent, Tests, AreExact, IsSafeTrace, TermsHaveRanks, are_allowed, broken_rule}

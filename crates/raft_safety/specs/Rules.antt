@@ -2,7 +2,21 @@
 -- leaders have sent, and of who was elected. It never speaks of two servers at one moment.
 use Rattle.std.specs.Prelude.{◌≡◌, ◌⊎◌, ◌<◌, ◌≤◌, ℕ, Bool, List, [], ◌∷◌, ◌++◌, length, take}
 use Rattle.raft_safety.specs.Log.{Entry, IsPrefix, IsUpToDate, AllOfTerm}
-use Rattle.raft_safety.specs.Events.{Event, GrantVote, LateVote, Append, Ack, Restart, History, term_after, voted_after, log_after, HasHad, HasKept, IsDurable}
+use Rattle.raft_safety.specs.Events.{
+  Event,
+  GrantVote,
+  LateVote,
+  Append,
+  Ack,
+  Restart,
+  History,
+  term_after,
+  voted_after,
+  log_after,
+  HasHad,
+  HasKept,
+  IsDurable,
+}
 use Rattle.raft_safety.specs.Facts.{IsElected}
 
 -- a restart keeps terms, votes and what is durable. Entries that are not durable may be lost, and a

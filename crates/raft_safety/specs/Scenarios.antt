@@ -15,9 +15,45 @@ use Rattle.raft_safety.specs.Facts.{IsCommitted, IsElected}
 use Rattle.raft_safety.specs.Rules.{MayRestart}
 use Rattle.raft_safety.specs.Configs.{is_quorum}
 use Rattle.raft_safety.specs.Ranks.{rank_in}
-use Rattle.raft_safety.specs.Trace.{broken_rule, TraceEvent, Campaigned, Granted, Appended, Acked, Restarted, Wrote, Committed, Applied, Tests, IsSafeTrace, are_allowed, campaign_terms, history, is_elected, log_in, has_voted, events_in}
+use Rattle.raft_safety.specs.Trace.{
+  broken_rule,
+  TraceEvent,
+  Campaigned,
+  Granted,
+  Appended,
+  Acked,
+  Restarted,
+  Wrote,
+  Committed,
+  Applied,
+  Tests,
+  IsSafeTrace,
+  are_allowed,
+  campaign_terms,
+  history,
+  is_elected,
+  log_in,
+  has_voted,
+  events_in,
+}
 use Rattle.raft_safety.specs.declared.rule.Rule.{Rule}
-use Rattle.raft_safety.specs.declared.rule.Rule.TheVariants.{ApartConfigs, CandidateBehind, CountedEarly, DropsMatching, EarlierTerm, EarlyConfig, ForeignEntries, LostAcked, NoCampaign, NoQuorum, NotCommitted, NotElected, NotKept, OtherTerm, PassedTerm}
+use Rattle.raft_safety.specs.declared.rule.Rule.TheVariants.{
+  ApartConfigs,
+  CandidateBehind,
+  CountedEarly,
+  DropsMatching,
+  EarlierTerm,
+  EarlyConfig,
+  ForeignEntries,
+  LostAcked,
+  NoCampaign,
+  NoQuorum,
+  NotCommitted,
+  NotElected,
+  NotKept,
+  OtherTerm,
+  PassedTerm,
+}
 
 -- ---- clusters whose terms are numbers
 

@@ -1,7 +1,34 @@
 -- Recorded traces of a cluster: the history that a trace makes, and the test that each event of it was
 -- allowed after the earlier ones. A clause at `x ∷ es` is about all events that the clauses above it do
 -- not name.
-use Rattle.std.specs.Prelude.{◌≡◌, ◌⊎◌, ℕ, Bool, true, false, not, ◌&&◌, ◌||◌, nat_lt, nat_le, nat_eq, min, max, if◌then◌else◌, Option, Some, None, is_none, List, [], ◌∷◌, ◌++◌, length, take, drop}
+use Rattle.std.specs.Prelude.{
+  ◌≡◌,
+  ◌⊎◌,
+  ℕ,
+  Bool,
+  true,
+  false,
+  not,
+  ◌&&◌,
+  ◌||◌,
+  nat_lt,
+  nat_le,
+  nat_eq,
+  min,
+  max,
+  if◌then◌else◌,
+  Option,
+  Some,
+  None,
+  is_none,
+  List,
+  [],
+  ◌∷◌,
+  ◌++◌,
+  length,
+  take,
+  drop,
+}
 use Rattle.raft_safety.specs.Log.{Entry, IsPrefix, last_term}
 use Rattle.raft_safety.specs.Events.{Event, GrantVote, LateVote, Append, Ack, Restart, History, term_after, voted_after, log_after}
 use Rattle.raft_safety.specs.Configs.{effective_config, is_quorum, QuorumsIntersect}
@@ -9,7 +36,30 @@ use Rattle.raft_safety.specs.Ranks.{IsAmong}
 use Rattle.raft_safety.specs.Safety.{IsSafe}
 use Rattle.raft_safety.specs.Execution.{IsExecution}
 use Rattle.raft_safety.specs.declared.rule.Rule.{Rule}
-use Rattle.raft_safety.specs.declared.rule.Rule.TheVariants.{PassedTerm, CampaignedTwice, NoCampaign, OwnCandidate, CandidateBehind, NotElected, MissingEntries, DropsMatching, ForeignEntries, TermNotReached, NotWritten, NotKept, LostAcked, OtherTerm, ApartConfigs, ApartQuorums, EarlyConfig, EarlierTerm, CountedEarly, NoQuorum, NotInLog, NotCommitted}
+use Rattle.raft_safety.specs.declared.rule.Rule.TheVariants.{
+  PassedTerm,
+  CampaignedTwice,
+  NoCampaign,
+  OwnCandidate,
+  CandidateBehind,
+  NotElected,
+  MissingEntries,
+  DropsMatching,
+  ForeignEntries,
+  TermNotReached,
+  NotWritten,
+  NotKept,
+  LostAcked,
+  OtherTerm,
+  ApartConfigs,
+  ApartQuorums,
+  EarlyConfig,
+  EarlierTerm,
+  CountedEarly,
+  NoQuorum,
+  NotInLog,
+  NotCommitted,
+}
 
 -- a recorded event. Events of different servers are in one order, in which an event comes after those
 -- that it depends on. A trace is a list of them, the latest first

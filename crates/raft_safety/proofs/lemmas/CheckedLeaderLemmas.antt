@@ -1,5 +1,30 @@
 -- What the checker keeps of a leader is what the events say.
-use Rattle.std.specs.Prelude.{◌≡◌, ◌⊎◌, ◌<◌, ◌≤◌, ℕ, zero, suc, Bool, true, false, ◌&&◌, ◌||◌, nat_lt, if◌then◌else◌, Option, Some, None, List, [], ◌∷◌, ◌++◌, length, get_or, set}
+use Rattle.std.specs.Prelude.{
+  ◌≡◌,
+  ◌⊎◌,
+  ◌<◌,
+  ◌≤◌,
+  ℕ,
+  zero,
+  suc,
+  Bool,
+  true,
+  false,
+  ◌&&◌,
+  ◌||◌,
+  nat_lt,
+  if◌then◌else◌,
+  Option,
+  Some,
+  None,
+  List,
+  [],
+  ◌∷◌,
+  ◌++◌,
+  length,
+  get_or,
+  set,
+}
 use Rattle.std.specs.List.{find, list_any, position, position_or_len, slice_get}
 use Rattle.std.specs.Option.{MatchOption}
 use Rattle.std.proofs.Common.{refl, sym, ap, ◌∙◌, subst, inl, inr, arith}
@@ -9,7 +34,33 @@ use Rattle.std.proofs.lemmas.List.Folds.{find-set, find_past, find_at}
 use Rattle.std.proofs.lemmas.List.Quantifiers.{position-Some}
 use Rattle.raft_safety.specs.Log.{Entry}
 use Rattle.raft_safety.specs.Events.{Event, GrantVote, LateVote, Ack, term_after}
-use Rattle.raft_safety.specs.Trace.{AreExact, Tests, TraceEvent, Campaigned, Granted, Appended, Acked, Restarted, Wrote, Committed, Applied, events_in, candidate_log_in, leader_log_in, has_voted, has_acked, has_campaigned, is_elected, is_config_committed, is_quorum_of_log, same_leader, term_in, and_vote, and_append, and_restart}
+use Rattle.raft_safety.specs.Trace.{
+  AreExact,
+  Tests,
+  TraceEvent,
+  Campaigned,
+  Granted,
+  Appended,
+  Acked,
+  Restarted,
+  Wrote,
+  Committed,
+  Applied,
+  events_in,
+  candidate_log_in,
+  leader_log_in,
+  has_voted,
+  has_acked,
+  has_campaigned,
+  is_elected,
+  is_config_committed,
+  is_quorum_of_log,
+  same_leader,
+  term_in,
+  and_vote,
+  and_append,
+  and_restart,
+}
 use Rattle.raft_safety.specs.Inner.Seen.{SeesLeader, SeesNoLeader, SeesLeaders, find_leader}
 use Rattle.raft_safety.specs.declared.checker.leader.Leader.{Leader}
 use Rattle.raft_safety.proofs.lemmas.TestLemmas.{leader_right}

@@ -1,5 +1,35 @@
 -- What the checker keeps of a server is what its events say.
-use Rattle.std.specs.Prelude.{◌≡◌, ◌⊎◌, ◌+◌, ◌<◌, ◌≤◌, ℕ, Bool, true, false, ◌&&◌, ◌||◌, nat_lt, nat_le, min, max, if◌then◌else◌, Option, Some, None, List, [], ◌∷◌, ◌++◌, length, take, drop, map, get_or, set}
+use Rattle.std.specs.Prelude.{
+  ◌≡◌,
+  ◌⊎◌,
+  ◌+◌,
+  ◌<◌,
+  ◌≤◌,
+  ℕ,
+  Bool,
+  true,
+  false,
+  ◌&&◌,
+  ◌||◌,
+  nat_lt,
+  nat_le,
+  min,
+  max,
+  if◌then◌else◌,
+  Option,
+  Some,
+  None,
+  List,
+  [],
+  ◌∷◌,
+  ◌++◌,
+  length,
+  take,
+  drop,
+  map,
+  get_or,
+  set,
+}
 use Rattle.std.specs.List.{position, position_or_len}
 use Rattle.std.specs.Option.{MatchOption}
 use Rattle.std.proofs.Common.{refl, sym, ap, ◌∙◌, subst, inl, inr, arith}
@@ -9,7 +39,18 @@ use Rattle.std.proofs.lemmas.List.Folds.{find-set, find_past}
 use Rattle.std.proofs.lemmas.List.Quantifiers.{position-Some}
 use Rattle.raft_safety.specs.Log.{Entry}
 use Rattle.raft_safety.specs.Events.{Event, GrantVote, LateVote, Append, Ack, Restart, term_after, log_after}
-use Rattle.raft_safety.specs.Trace.{AreExact, Tests, TraceEvent, events_in, is_prefix, same_entry, has_kept, durable, and_append, and_restart}
+use Rattle.raft_safety.specs.Trace.{
+  AreExact,
+  Tests,
+  TraceEvent,
+  events_in,
+  is_prefix,
+  same_entry,
+  has_kept,
+  durable,
+  and_append,
+  and_restart,
+}
 use Rattle.raft_safety.specs.Inner.CheckerState.{common_len, kept_from, kept_after, at_most}
 use Rattle.raft_safety.specs.Inner.Seen.{SeesServer, SeesServers, kept_at, find_server}
 use Rattle.raft_safety.specs.declared.checker.server.Kept.{Kept}

@@ -1,5 +1,40 @@
 -- The checker refuses an event exactly if it is not allowed, and keeps what the events say.
-use Rattle.std.specs.Prelude.{◌≡◌, ◌⊎◌, ◌+◌, ◌<◌, ◌≤◌, ℕ, zero, suc, Bool, true, false, not, ◌&&◌, ◌||◌, nat_lt, nat_le, nat_eq, min, max, if◌then◌else◌, Option, Some, None, is_none, List, [], ◌∷◌, ◌++◌, length, take, drop, map, get_or, set}
+use Rattle.std.specs.Prelude.{
+  ◌≡◌,
+  ◌⊎◌,
+  ◌+◌,
+  ◌<◌,
+  ◌≤◌,
+  ℕ,
+  zero,
+  suc,
+  Bool,
+  true,
+  false,
+  not,
+  ◌&&◌,
+  ◌||◌,
+  nat_lt,
+  nat_le,
+  nat_eq,
+  min,
+  max,
+  if◌then◌else◌,
+  Option,
+  Some,
+  None,
+  is_none,
+  List,
+  [],
+  ◌∷◌,
+  ◌++◌,
+  length,
+  take,
+  drop,
+  map,
+  get_or,
+  set,
+}
 use Rattle.std.specs.Cmp.{first_so, second_so}
 use Rattle.std.specs.List.{find, list_any, position, IsDistinct}
 use Rattle.std.specs.Option.{MatchOption, unwrap_or, option_or}
@@ -7,7 +42,27 @@ use Rattle.std.specs.Set.{is_member}
 use Rattle.std.proofs.Common.{refl, sym, ap, ◌∙◌, subst, inl, inr, arith}
 use Rattle.std.proofs.lemmas.List.Folds.{find-append}
 use Rattle.std.proofs.lemmas.List.Quantifiers.{position-Some}
-use Rattle.raft_safety.specs.declared.rule.Rule.TheVariants.{OtherTerm, ApartConfigs, ApartQuorums, EarlyConfig, EarlierTerm, CountedEarly, NoQuorum, NotInLog, NotCommitted, CampaignedTwice, NotElected, PassedTerm, MissingEntries, DropsMatching, ForeignEntries, TermNotReached, NotWritten, NotKept, LostAcked}
+use Rattle.raft_safety.specs.declared.rule.Rule.TheVariants.{
+  OtherTerm,
+  ApartConfigs,
+  ApartQuorums,
+  EarlyConfig,
+  EarlierTerm,
+  CountedEarly,
+  NoQuorum,
+  NotInLog,
+  NotCommitted,
+  CampaignedTwice,
+  NotElected,
+  PassedTerm,
+  MissingEntries,
+  DropsMatching,
+  ForeignEntries,
+  TermNotReached,
+  NotWritten,
+  NotKept,
+  LostAcked,
+}
 use Rattle.raft_safety.proofs.lemmas.PrefixLemmas.{prefix_length}
 use Rattle.raft_safety.proofs.lemmas.TestLemmas.{leader_right, leader_from, prefix_right, entry_right, entry_itself}
 use Rattle.std.proofs.lemmas.Bool.{cases_Bool, and_from, and_right, cases_lt, leb-true, leb-false, lt-ltb, le-ltb, le-leb}
@@ -15,17 +70,113 @@ use Rattle.std.proofs.lemmas.List.{take_all, take-append-le, length-append, leng
 use Rattle.raft_safety.specs.Log.{Entry}
 use Rattle.raft_safety.specs.Configs.{effective_config}
 use Rattle.raft_safety.specs.Events.{Event, GrantVote, LateVote, Ack, log_after, term_after}
-use Rattle.raft_safety.specs.Trace.{AreExact, Tests, TraceEvent, Campaigned, Granted, Appended, Acked, Restarted, Wrote, Committed, Applied, events_in, has_campaigned, is_elected, is_allowed, are_allowed, same_entry, same_leader, hold_no_config, and_vote, and_append, and_restart, has_kept, has_acked, has_voted, candidate_log_in, leader_log_in, is_config_committed, is_known_committed, is_quorum_of_log, is_prefix, common_prefix, unless, broken_rule, proposal_rule, log_in}
-use Rattle.raft_safety.specs.Inner.CheckerState.{write_rule, config_rule, config_in, no_config_in, append_rule, ack_rule, restart_rule, grant_rule, commit_rule, knows, has_committed, has_kept_by, has_acked_to, config_committed, common_len, kept_from, kept_after, at_most, IsAdded, HasPlace, apply_rule}
+use Rattle.raft_safety.specs.Trace.{
+  AreExact,
+  Tests,
+  TraceEvent,
+  Campaigned,
+  Granted,
+  Appended,
+  Acked,
+  Restarted,
+  Wrote,
+  Committed,
+  Applied,
+  events_in,
+  has_campaigned,
+  is_elected,
+  is_allowed,
+  are_allowed,
+  same_entry,
+  same_leader,
+  hold_no_config,
+  and_vote,
+  and_append,
+  and_restart,
+  has_kept,
+  has_acked,
+  has_voted,
+  candidate_log_in,
+  leader_log_in,
+  is_config_committed,
+  is_known_committed,
+  is_quorum_of_log,
+  is_prefix,
+  common_prefix,
+  unless,
+  broken_rule,
+  proposal_rule,
+  log_in,
+}
+use Rattle.raft_safety.specs.Inner.CheckerState.{
+  write_rule,
+  config_rule,
+  config_in,
+  no_config_in,
+  append_rule,
+  ack_rule,
+  restart_rule,
+  grant_rule,
+  commit_rule,
+  knows,
+  has_committed,
+  has_kept_by,
+  has_acked_to,
+  config_committed,
+  common_len,
+  kept_from,
+  kept_after,
+  at_most,
+  IsAdded,
+  HasPlace,
+  apply_rule,
+}
 use Rattle.raft_safety.specs.Checker.{HasSeen}
 use Rattle.raft_safety.specs.Inner.Seen.{SeesServer, kept_at, SeesServers, SeesLeader, SeesNoLeader, SeesLeaders, find_server, find_leader}
 use Rattle.raft_safety.proofs.lemmas.RuleLemmas.{first_none, rest_none, first_two}
 use Rattle.raft_safety.specs.declared.rule.Rule.{Rule}
 use Rattle.raft_safety.specs.declared.checker.server.Server.{Server}
 use Rattle.raft_safety.specs.declared.checker.leader.Leader.{Leader}
-use Rattle.raft_safety.proofs.lemmas.CheckedLogLemmas.{same_sym, common_from, keeps_common, appended_is_old, appended_is_other, is_prefix_by_len}
-use Rattle.raft_safety.proofs.lemmas.CheckedServerLemmas.{has_kept_by_len, kept_all, sees_vote, sees_late_vote, sees_append, sees_ack, sees_restart, sees_new, see_set}
-use Rattle.raft_safety.proofs.lemmas.CheckedLeaderLemmas.{found_some, write_of_other, commit_of_other, apply_same, any_set_or, vote_no_ack, any_vote_no_ack, late_vote_same, campaign_of_other, grant_to_other, found_at, none_found, stays, ack_to_other, ack_no_vote, append_same, restart_same, see_leader_set, see_leader_added}
+use Rattle.raft_safety.proofs.lemmas.CheckedLogLemmas.{
+  same_sym,
+  common_from,
+  keeps_common,
+  appended_is_old,
+  appended_is_other,
+  is_prefix_by_len,
+}
+use Rattle.raft_safety.proofs.lemmas.CheckedServerLemmas.{
+  has_kept_by_len,
+  kept_all,
+  sees_vote,
+  sees_late_vote,
+  sees_append,
+  sees_ack,
+  sees_restart,
+  sees_new,
+  see_set,
+}
+use Rattle.raft_safety.proofs.lemmas.CheckedLeaderLemmas.{
+  found_some,
+  write_of_other,
+  commit_of_other,
+  apply_same,
+  any_set_or,
+  vote_no_ack,
+  any_vote_no_ack,
+  late_vote_same,
+  campaign_of_other,
+  grant_to_other,
+  found_at,
+  none_found,
+  stays,
+  ack_to_other,
+  ack_no_vote,
+  append_same,
+  restart_same,
+  see_leader_set,
+  see_leader_added,
+}
 
 -- an append that breaks no rule is in a term that the server has not passed, and keeps entries that
 -- the server has
@@ -480,7 +631,8 @@ module _ {T ID D : Type 0} (k : Tests T ID D (Option D)) (exact : AreExact k) wh
       → LeaderIs lnew l.term l.id l.start l.log.items lnew.voters.items lnew.elected l.committed
       → (broken_rule k (Granted id t c) es ≡ None)
       × HasSeen k (Granted id t c ∷ es) (set servers i new) (set leaders j lnew)
-  grant_seen es id t c servers leaders i j s new l lnew at_i is at_j is_l seen free above same_id term vote log dur kept voted distinct elected acked
+  grant_seen es id t c servers leaders i j s new l lnew at_i is at_j is_l seen free above same_id term vote log dur kept voted
+      distinct elected acked
       same = (
         ok,
         record {

@@ -1,6 +1,34 @@
 -- The checker's steps as its code takes them. An element of a list that is read and borrowed has two
 -- names there.
-use Rattle.std.specs.Prelude.{◌≡◌, ◌+◌, ◌<◌, ◌≤◌, ℕ, Bool, true, false, ◌||◌, ◌&&◌, nat_le, nat_lt, min, max, Option, Some, None, List, [], ◌∷◌, ◌++◌, length, take, drop, map, get_or, set}
+use Rattle.std.specs.Prelude.{
+  ◌≡◌,
+  ◌+◌,
+  ◌<◌,
+  ◌≤◌,
+  ℕ,
+  Bool,
+  true,
+  false,
+  ◌||◌,
+  ◌&&◌,
+  nat_le,
+  nat_lt,
+  min,
+  max,
+  Option,
+  Some,
+  None,
+  List,
+  [],
+  ◌∷◌,
+  ◌++◌,
+  length,
+  take,
+  drop,
+  map,
+  get_or,
+  set,
+}
 use Rattle.std.specs.List.{position, IsDistinct, list_any}
 use Rattle.std.specs.Option.{unwrap_or, option_or}
 use Rattle.std.specs.Set.{is_member}
@@ -10,17 +38,84 @@ use Rattle.std.proofs.lemmas.List.{get_or_default}
 use Rattle.std.proofs.lemmas.List.Quantifiers.{position-Some}
 use Rattle.raft_safety.specs.Log.{Entry}
 use Rattle.raft_safety.specs.Configs.{effective_config}
-use Rattle.raft_safety.specs.Trace.{AreExact, Tests, TraceEvent, Campaigned, Granted, Appended, Acked, Restarted, Wrote, Committed, Applied, events_in, same_entry, same_leader, hold_no_config, is_quorum_of_log, unless, broken_rule}
-use Rattle.raft_safety.specs.Inner.CheckerState.{config_in, write_rule, commit_rule, append_rule, ack_rule, restart_rule, grant_rule, knows, has_committed, has_acked_to, config_committed, common_len, kept_from, kept_after, at_most, HasPlace, apply_rule}
+use Rattle.raft_safety.specs.Trace.{
+  AreExact,
+  Tests,
+  TraceEvent,
+  Campaigned,
+  Granted,
+  Appended,
+  Acked,
+  Restarted,
+  Wrote,
+  Committed,
+  Applied,
+  events_in,
+  same_entry,
+  same_leader,
+  hold_no_config,
+  is_quorum_of_log,
+  unless,
+  broken_rule,
+}
+use Rattle.raft_safety.specs.Inner.CheckerState.{
+  config_in,
+  write_rule,
+  commit_rule,
+  append_rule,
+  ack_rule,
+  restart_rule,
+  grant_rule,
+  knows,
+  has_committed,
+  has_acked_to,
+  config_committed,
+  common_len,
+  kept_from,
+  kept_after,
+  at_most,
+  HasPlace,
+  apply_rule,
+}
 use Rattle.raft_safety.specs.Checker.{HasSeen}
 use Rattle.raft_safety.specs.Inner.Seen.{SeesServer, SeesLeader}
-use Rattle.raft_safety.specs.declared.rule.Rule.TheVariants.{NoCampaign, NotElected, NoQuorum, NotCommitted, EarlierTerm, CountedEarly, NotWritten}
+use Rattle.raft_safety.specs.declared.rule.Rule.TheVariants.{
+  NoCampaign,
+  NotElected,
+  NoQuorum,
+  NotCommitted,
+  EarlierTerm,
+  CountedEarly,
+  NotWritten,
+}
 use Rattle.raft_safety.specs.declared.rule.Rule.{Rule}
 use Rattle.raft_safety.specs.declared.checker.server.Server.{Server}
 use Rattle.raft_safety.specs.declared.checker.leader.Leader.{Leader}
 use Rattle.raft_safety.proofs.lemmas.CheckedServerLemmas.{see_set}
 use Rattle.raft_safety.proofs.lemmas.CheckedLeaderLemmas.{any_set_or, see_leader_set}
-use Rattle.raft_safety.proofs.lemmas.CheckerLemmas.{write_right, write_seen, commit_right, commit_first, commit_then, commit_seen, apply_right, apply_seen, no_leader, LeaderIs, server_seen, leader_seen, leader_place, see_place, restart_seen, append_first, append_seen, ack_seen, grant_seen, late_vote_seen, campaign_seen}
+use Rattle.raft_safety.proofs.lemmas.CheckerLemmas.{
+  write_right,
+  write_seen,
+  commit_right,
+  commit_first,
+  commit_then,
+  commit_seen,
+  apply_right,
+  apply_seen,
+  no_leader,
+  LeaderIs,
+  server_seen,
+  leader_seen,
+  leader_place,
+  see_place,
+  restart_seen,
+  append_first,
+  append_seen,
+  ack_seen,
+  grant_seen,
+  late_vote_seen,
+  campaign_seen,
+}
 
 pub same_item : {X : Type 0} (xs : List X) (i : ℕ) (x y : X) → i < length xs → x ≡ get_or xs i x
     → y ≡ get_or xs i y → x ≡ y
@@ -209,7 +304,8 @@ module _ {T ID D : Type 0} (k : Tests T ID D (Option D)) (exact : AreExact k) wh
       → LeaderIs lnew l.term l.id l.start l.log.items lnew.voters.items lnew.elected l.committed
       → (broken_rule k (Granted id t c) es ≡ None)
       × HasSeen k (Granted id t c ∷ es) (set servers i new) (set leaders j lnew)
-  grant_done es id t c old servers leaders i j s0 s new l0 l lnew place is0 is at_j is_l0 is_l seen free above same_id term vote log dur kept voted
+  grant_done es id t c old servers leaders i j s0 s new l0 l lnew place is0 is at_j is_l0 is_l seen free above same_id term vote
+      log dur kept voted
       distinct elected =
       let one : s0 ≡ s =
       same_item servers i s0 s (place_within (λ (x : Server T ID D). k.same_id x.id id) servers i s place.0) is0 is in

@@ -9,7 +9,37 @@ use Rattle.raft_safety.specs.Configs.{is_quorum}
 use Rattle.raft_safety.specs.Facts.{IsCommitted}
 use Rattle.raft_safety.specs.Log.{Entry, IsPrefix}
 use Rattle.raft_safety.specs.Trace.{AreExact, TermsHaveRanks, are_allowed, history}
-use Rattle.raft_safety.specs.Scenarios.{AreDisturbances, AreLeaderIds, AreMemberChanges, AreRefusedByRule, IsAllowedTrace, IsFigure8, Row, behind, foreign_ack, by_leader_id, configs_of, entry, figure_8_c, figure_8_d, figure_8_e, five, voted_late, joint_on_old, late_flush, learner_promoted, led, loss_and_return, lost_flush, members_changed, noise, snapshot_on_empty_log, starting_from, three, two_of_one_term}
+use Rattle.raft_safety.specs.Scenarios.{
+  AreDisturbances,
+  AreLeaderIds,
+  AreMemberChanges,
+  AreRefusedByRule,
+  IsAllowedTrace,
+  IsFigure8,
+  Row,
+  behind,
+  foreign_ack,
+  by_leader_id,
+  configs_of,
+  entry,
+  figure_8_c,
+  figure_8_d,
+  figure_8_e,
+  five,
+  voted_late,
+  joint_on_old,
+  late_flush,
+  learner_promoted,
+  led,
+  loss_and_return,
+  lost_flush,
+  members_changed,
+  noise,
+  snapshot_on_empty_log,
+  starting_from,
+  three,
+  two_of_one_term,
+}
 use Rattle.raft_safety.proofs.lemmas.PrefixLemmas.{prefix_itself, prefix_length}
 use Rattle.raft_safety.proofs.lemmas.JointLemmas.{coherent_intersect}
 use Rattle.raft_safety.proofs.lemmas.TraceLemmas.{committed_right, elected_right, trace_is_safe}

@@ -5,10 +5,32 @@ use Rattle.std.proofs.Common.{refl, sym, ap, ◌∙◌, inl, inr, arith}
 use Rattle.std.proofs.lemmas.List.{length-take-le}
 use Rattle.std.proofs.lemmas.Bool.{cases_lt}
 use Rattle.raft_safety.specs.Log.{Entry, IsPrefix, IsUpToDate, last_term}
-use Rattle.raft_safety.specs.Events.{Ack, Append, Event, GrantVote, LateVote, HasHad, HasKept, History, IsDurable, Restart, log_after, term_after}
+use Rattle.raft_safety.specs.Events.{
+  Ack,
+  Append,
+  Event,
+  GrantVote,
+  LateVote,
+  HasHad,
+  HasKept,
+  History,
+  IsDurable,
+  Restart,
+  log_after,
+  term_after,
+}
 use Rattle.raft_safety.specs.Facts.{HasAcked, HasVoted, IsCommitted, IsElected}
 use Rattle.raft_safety.specs.Rules.{EventsFollowRules, FollowsRaft, MayGrantVote}
-use Rattle.raft_safety.proofs.lemmas.PrefixLemmas.{prefix_itself, prefix_trans, prefix_take, prefix_length, prefix_within, take_within, empty_last, last_added}
+use Rattle.raft_safety.proofs.lemmas.PrefixLemmas.{
+  prefix_itself,
+  prefix_trans,
+  prefix_take,
+  prefix_length,
+  prefix_within,
+  take_within,
+  empty_last,
+  last_added,
+}
 
 module _ {T ID D : Type 0} where
   -- the log of a server is one that it has had

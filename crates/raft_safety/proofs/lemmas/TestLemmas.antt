@@ -31,7 +31,20 @@ use Rattle.raft_safety.specs.Log.{Entry, IsPrefix, IsUpToDate, last_term}
 use Rattle.raft_safety.specs.Events.{Ack, Append, Event, GrantVote, LateVote, HasKept, IsDurable, Restart, log_after, term_after}
 use Rattle.raft_safety.specs.Facts.{HasAcked, HasVoted}
 use Rattle.raft_safety.specs.Configs.{HoldNoConfig}
-use Rattle.raft_safety.specs.Trace.{AreExact, Tests, common_prefix, durable, has_acked, has_kept, has_voted, hold_no_config, is_prefix, is_up_to_date, same_entry, same_leader}
+use Rattle.raft_safety.specs.Trace.{
+  AreExact,
+  Tests,
+  common_prefix,
+  durable,
+  has_acked,
+  has_kept,
+  has_voted,
+  hold_no_config,
+  is_prefix,
+  is_up_to_date,
+  same_entry,
+  same_leader,
+}
 use Rattle.raft_safety.proofs.lemmas.PrefixLemmas.{prefix_length}
 use Rattle.raft_safety.proofs.lemmas.ServerLemmas.{durable_now}
 

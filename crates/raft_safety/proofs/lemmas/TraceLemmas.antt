@@ -1,5 +1,29 @@
 -- A trace that passes the test is an execution.
-use Rattle.std.specs.Prelude.{◌≡◌, ◌⊎◌, ◌≤◌, ℕ, Bool, true, false, not, ◌&&◌, ◌||◌, nat_lt, nat_le, if◌then◌else◌, Option, Some, List, [], ◌∷◌, ◌++◌, length, take, drop, get_or}
+use Rattle.std.specs.Prelude.{
+  ◌≡◌,
+  ◌⊎◌,
+  ◌≤◌,
+  ℕ,
+  Bool,
+  true,
+  false,
+  not,
+  ◌&&◌,
+  ◌||◌,
+  nat_lt,
+  nat_le,
+  if◌then◌else◌,
+  Option,
+  Some,
+  List,
+  [],
+  ◌∷◌,
+  ◌++◌,
+  length,
+  take,
+  drop,
+  get_or,
+}
 use Rattle.std.specs.Cmp.{first_so, second_so}
 use Rattle.std.proofs.Common.{refl, sym, ap, ◌∙◌, inl, inr, arith, ltb-true}
 use Rattle.std.proofs.lemmas.Bool.{leb-true, ltb-false, or_left, or_right}
@@ -13,12 +37,72 @@ use Rattle.raft_safety.specs.Apply.{MayApply}
 use Rattle.raft_safety.specs.Configs.{HoldNoConfig, MayProposeConfig, QuorumsIntersect, effective_config, is_quorum}
 use Rattle.raft_safety.specs.Ranks.{IsAmong}
 use Rattle.raft_safety.specs.Execution.{IsExecution, LeaderAppends, MayDo, Next, ServerStep, StartsCampaign}
-use Rattle.raft_safety.specs.Trace.{Acked, Appended, Applied, AreExact, Campaigned, Committed, Granted, IsSafeTrace, Restarted, TermsHaveRanks, Tests, TraceEvent, WasApplied, Wrote, are_allowed, campaign_terms, candidate_log_in, common_prefix, durable, earlier, events_in, has_acked, has_campaigned, has_kept, has_voted, history, hold_no_config, is_allowed, is_config_committed, is_elected, is_known_committed, is_prefix, is_up_to_date, leader_log_in, log_in, same_leader, term_in, voted_in}
-use Rattle.raft_safety.proofs.lemmas.PrefixLemmas.{append-nil, prefix_itself, prefix_trans, prefix_take, prefix_length, prefix_same, prefix_within}
+use Rattle.raft_safety.specs.Trace.{
+  Acked,
+  Appended,
+  Applied,
+  AreExact,
+  Campaigned,
+  Committed,
+  Granted,
+  IsSafeTrace,
+  Restarted,
+  TermsHaveRanks,
+  Tests,
+  TraceEvent,
+  WasApplied,
+  Wrote,
+  are_allowed,
+  campaign_terms,
+  candidate_log_in,
+  common_prefix,
+  durable,
+  earlier,
+  events_in,
+  has_acked,
+  has_campaigned,
+  has_kept,
+  has_voted,
+  history,
+  hold_no_config,
+  is_allowed,
+  is_config_committed,
+  is_elected,
+  is_known_committed,
+  is_prefix,
+  is_up_to_date,
+  leader_log_in,
+  log_in,
+  same_leader,
+  term_in,
+  voted_in,
+}
+use Rattle.raft_safety.proofs.lemmas.PrefixLemmas.{
+  append-nil,
+  prefix_itself,
+  prefix_trans,
+  prefix_take,
+  prefix_length,
+  prefix_same,
+  prefix_within,
+}
 use Rattle.raft_safety.proofs.lemmas.RuleLemmas.{allowed_by_rules, is_committed, may_propose, passes}
 use Rattle.raft_safety.proofs.lemmas.ServerLemmas.{durable_now, had_now}
 use Rattle.raft_safety.proofs.lemmas.ExecutionLemmas.{all_times_agree, execution_is_safe, step_keeps_facts}
-use Rattle.raft_safety.proofs.lemmas.TestLemmas.{or_cases, not_so, leader_right, leader_from, prefix_right, common_right, up_to_date_right, no_config_right, voted_right, acked_right, kept_right, durable_within}
+use Rattle.raft_safety.proofs.lemmas.TestLemmas.{
+  or_cases,
+  not_so,
+  leader_right,
+  leader_from,
+  prefix_right,
+  common_right,
+  up_to_date_right,
+  no_config_right,
+  voted_right,
+  acked_right,
+  kept_right,
+  durable_within,
+}
 
 module _ {T ID D M : Type 0} (k : Tests T ID D M) (exact : AreExact k) where
   abbrev Q : List (Entry T D) → (ID → Bool) → Bool

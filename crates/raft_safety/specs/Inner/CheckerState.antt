@@ -1,5 +1,31 @@
 -- What the checker keeps of a server and of a leader, and which rule an event breaks by it.
-use Rattle.std.specs.Prelude.{◌≡◌, ◌⊎◌, ◌+◌, ℕ, suc, Bool, false, not, ◌&&◌, ◌||◌, nat_lt, nat_le, nat_eq, min, if◌then◌else◌, Option, Some, None, List, [], ◌∷◌, ◌++◌, length, take, drop}
+use Rattle.std.specs.Prelude.{
+  ◌≡◌,
+  ◌⊎◌,
+  ◌+◌,
+  ℕ,
+  suc,
+  Bool,
+  false,
+  not,
+  ◌&&◌,
+  ◌||◌,
+  nat_lt,
+  nat_le,
+  nat_eq,
+  min,
+  if◌then◌else◌,
+  Option,
+  Some,
+  None,
+  List,
+  [],
+  ◌∷◌,
+  ◌++◌,
+  length,
+  take,
+  drop,
+}
 use Rattle.std.specs.List.{list_any, list_all, position}
 use Rattle.raft_safety.specs.Log.{Entry, last_term}
 use Rattle.raft_safety.specs.Configs.{effective_config}
@@ -7,7 +33,26 @@ use Rattle.raft_safety.specs.declared.checker.server.Server.{Server}
 use Rattle.raft_safety.specs.declared.checker.leader.Leader.{Leader}
 use Rattle.raft_safety.specs.Trace.{unless}
 use Rattle.raft_safety.specs.declared.rule.Rule.{Rule}
-use Rattle.raft_safety.specs.declared.rule.Rule.TheVariants.{PassedTerm, OwnCandidate, CandidateBehind, NotElected, MissingEntries, DropsMatching, ForeignEntries, TermNotReached, NotWritten, NotKept, LostAcked, OtherTerm, ApartConfigs, ApartQuorums, EarlyConfig, EarlierTerm, CountedEarly, NotInLog}
+use Rattle.raft_safety.specs.declared.rule.Rule.TheVariants.{
+  PassedTerm,
+  OwnCandidate,
+  CandidateBehind,
+  NotElected,
+  MissingEntries,
+  DropsMatching,
+  ForeignEntries,
+  TermNotReached,
+  NotWritten,
+  NotKept,
+  LostAcked,
+  OtherTerm,
+  ApartConfigs,
+  ApartQuorums,
+  EarlyConfig,
+  EarlierTerm,
+  CountedEarly,
+  NotInLog,
+}
 use Rattle.raft_safety.specs.declared.checker.server.Kept.{Kept}
 use Rattle.raft_safety.specs.declared.checker.leader.Acked.{Acked}
 

@@ -5,7 +5,22 @@ use Rattle.std.specs.Option.{MatchOption}
 use Rattle.std.specs.Set.{is_member}
 use Rattle.raft_safety.specs.Log.{Entry}
 use Rattle.raft_safety.specs.Events.{Event, term_after, voted_after, log_after}
-use Rattle.raft_safety.specs.Trace.{same_entry, TraceEvent, Tests, events_in, candidate_log_in, leader_log_in, has_voted, has_acked, durable, has_campaigned, is_elected, is_config_committed, hold_no_config, same_leader}
+use Rattle.raft_safety.specs.Trace.{
+  same_entry,
+  TraceEvent,
+  Tests,
+  events_in,
+  candidate_log_in,
+  leader_log_in,
+  has_voted,
+  has_acked,
+  durable,
+  has_campaigned,
+  is_elected,
+  is_config_committed,
+  hold_no_config,
+  same_leader,
+}
 use Rattle.raft_safety.specs.Inner.CheckerState.{kept_from, has_acked_to, config_committed, common_len}
 use Rattle.raft_safety.specs.declared.checker.server.Server.{Server}
 use Rattle.raft_safety.specs.declared.checker.leader.Leader.{Leader}

@@ -124,7 +124,8 @@ module _ {ID V P QS : Type 0} {eq : ID → ID → Bool} (laws : IsEquivalence eq
         none = λ e. cc;
         above = λ k e. let here : last + 1 ≡ k = cc in omega arith;
         within = λ k e. let here : last + 1 ≡ k = cc in let far = long in omega arith;
-        holds = λ k e. let here : last + 1 ≡ k = cc in subst (λ (n : ℕ). prefix_test eq (has_quorum old.quorum_set) voters n ≡ true) here passes;
+        holds = λ k e. let here : last + 1 ≡ k = cc
+            in subst (λ (n : ℕ). prefix_test eq (has_quorum old.quorum_set) voters n ≡ true) here passes;
         least = λ k l e m n. let here : last + 1 ≡ k = cc in fails l (omega arith);
         tested = λ k e. omega arith;
         few = λ k l. some_digit k l;

@@ -12,14 +12,16 @@ loop-id-preserved g c =
       | then-not-contains w ↦ record {
         counted = w.added-is ∙ ap (λ n. n + 1) c.loop-id.invariant.counted
             ∙ sym (count_by_more_yes absent c.args.other.now c.loop-id.id-index c.id-item.result (omega arith)
-            (ap absent (sym c.id-item.is) ∙ ap not (sym (flipped g.met.N.Eq.laws c.id-item.result c.args.config.now) ∙ sym c.contains.ensures.value
+            (ap absent (sym c.id-item.is) ∙ ap not (sym (flipped g.met.N.Eq.laws c.id-item.result c.args.config.now) ∙ sym
+            c.contains.ensures.value
             ∙ w.if-not-contains.true)));
         few = omega (arith, c.loop-id.invariant.few, w.added-is);
       }
       | else-not-contains w ↦ record {
         counted = w.added-is ∙ c.loop-id.invariant.counted
             ∙ sym (count_by_more_no absent c.args.other.now c.loop-id.id-index c.id-item.result (omega arith)
-            (ap absent (sym c.id-item.is) ∙ ap not (sym (flipped g.met.N.Eq.laws c.id-item.result c.args.config.now) ∙ sym c.contains.ensures.value
+            (ap absent (sym c.id-item.is) ∙ ap not (sym (flipped g.met.N.Eq.laws c.id-item.result c.args.config.now) ∙ sym
+            c.contains.ensures.value
             ∙ w.if-not-contains.false)));
         few = omega (arith, c.loop-id.invariant.few, w.added-is);
       }

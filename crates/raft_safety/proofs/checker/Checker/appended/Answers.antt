@@ -38,7 +38,8 @@ returns-in_err-append-clause-answer g c =
       same_server _ exact es c.args.server c.args.self.now.servers.items c.server_at.new.servers.items c.args.self.now.leaders.items
           c.in_ok-i.i
           c.index_mut.result.now c.append.new.self c.in_ok-i.ensures.at c.index_mut.ensures.value seen
-          c.in_err-append.ensures.same_id c.in_err-append.ensures.err_term c.in_err-append.ensures.same_voted c.in_err-append.ensures.err_log
+          c.in_err-append.ensures.same_id c.in_err-append.ensures.err_term c.in_err-append.ensures.same_voted
+          c.in_err-append.ensures.err_log
           c.in_err-append.ensures.err_durable c.in_err-append.ensures.err_kept,
     ))
 

@@ -43,7 +43,8 @@ returns-in_err-make_room-clause-answer g c =
       rw c.in_ok-reserve.ensures.items (same_server _ exact es c.args.server c.args.self.now.servers.items c.server_at.new.servers.items
           c.args.self.now.leaders.items c.in_ok-i.i
           c.index_mut-voter.result.now c.make_room.new.self c.in_ok-i.ensures.at c.index_mut-voter.ensures.value seen
-          c.in_err-make_room.ensures.same_id c.in_err-make_room.ensures.same_term c.in_err-make_room.ensures.same_voted c.in_err-make_room.ensures.same_log
+          c.in_err-make_room.ensures.same_id c.in_err-make_room.ensures.same_term c.in_err-make_room.ensures.same_voted
+          c.in_err-make_room.ensures.same_log
           c.in_err-make_room.ensures.same_durable c.in_err-make_room.ensures.same_kept),
     ))
 
@@ -55,7 +56,8 @@ returns-in_err-leader-clause-answer g c =
       rw c.in_ok-reserve.ensures.items (same_server _ exact es c.args.server c.args.self.now.servers.items c.server_at.new.servers.items
           c.args.self.now.leaders.items c.in_ok-i.i
           c.index_mut-voter.result.now c.make_room.new.self c.in_ok-i.ensures.at c.index_mut-voter.ensures.value seen
-          c.in_ok-make_room.ensures.same_id c.in_ok-make_room.ensures.same_term c.in_ok-make_room.ensures.same_voted c.in_ok-make_room.ensures.same_log
+          c.in_ok-make_room.ensures.same_id c.in_ok-make_room.ensures.same_term c.in_ok-make_room.ensures.same_voted
+          c.in_ok-make_room.ensures.same_log
           c.in_ok-make_room.ensures.same_durable c.in_ok-make_room.ensures.same_kept),
     ))
 
