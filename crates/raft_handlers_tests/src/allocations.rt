@@ -231,10 +231,26 @@ impl<K: LeaderKind<u64>> Led<K> {
     }
 }
 
+/// The state that the call of a name borrows.
+fn borrowed<K: LeaderKind<u64>>(alloc: Global, name: &str) -> Result<StateOf<K>, AllocError> {
+    in_memory(Led::<K>::borrowed(alloc, name))
+}
+
+/// Makes the call of a name.
+fn call<K: LeaderKind<u64>>(
+    allocation: Allocation,
+    state: &mut StateOf<K>,
+    name: &str,
+) -> Result<bool, AllocError> {
+    Led::<K>::call(allocation, state, name)
+}
+
 /// Whether the calls of a candidate and of a leader are right with each allocation refused in turn.
-fn is_leader_swept<K: LeaderKind<u64>>(rt: &impl Print, alloc: Global) -> io::Result<bool> {
+///
+/// Over any kind of leader ids the closures of the state would get no proof of their borrows.
+fn is_leader_swept(rt: &impl Print, alloc: Global) -> io::Result<bool> {
     let nothing = |_alloc: Global| Ok(());
-    let elects = |allocation: Allocation, _nothing: &mut ()| elect::<K>(allocation);
+    let elects = |allocation: Allocation, _nothing: &mut ()| elect::<LeaderAdv>(allocation);
     let mut is_right = is_swept(rt, alloc, "Leader::new", nothing, elects)?;
     for name in [
         "Candidate::campaign",
@@ -244,9 +260,9 @@ fn is_leader_swept<K: LeaderKind<u64>>(rt: &impl Print, alloc: Global) -> io::Re
         "Leader::propose_change",
         "Leader::leave_joint",
     ] {
-        let borrowed = |alloc: Global| in_memory(Led::<K>::borrowed(alloc, name));
-        let call = |allocation: Allocation, state: &mut StateOf<K>| {
-            Led::<K>::call(allocation, state, name)
+        let borrowed = |alloc: Global| borrowed::<LeaderAdv>(alloc, name);
+        let call = |allocation: Allocation, state: &mut State| {
+            call::<LeaderAdv>(allocation, state, name)
         };
         is_right &= is_swept(rt, alloc, name, borrowed, call)?;
     }
@@ -255,7 +271,7 @@ fn is_leader_swept<K: LeaderKind<u64>>(rt: &impl Print, alloc: Global) -> io::Re
 
 #[test]
 fn allocations_of_a_leader(rt: HostRuntime) -> Result<(), Fail> {
-    assert!(rt; is_leader_swept::<LeaderAdv>(&rt, rt.alloc())?);
+    assert!(rt; is_leader_swept(&rt, rt.alloc())?);
     Ok(())
 }
 

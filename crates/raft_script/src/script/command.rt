@@ -258,7 +258,7 @@ fn nodes_of(alloc: Global, ids: BTreeSet<u64>) -> Result<BTreeMap<u64, EmptyNode
 }
 
 /// Returns the configs of a word: `none` has none, and others are lists that are joined by slashes.
-fn configs(alloc: Global, word: &[u8]) -> Result<Vec<BTreeSet<u64>>, LineError>
+pub fn configs(alloc: Global, word: &[u8]) -> Result<Vec<BTreeSet<u64>>, LineError>
     ensures configs { IfOk result (λ configs. IsConfigsOf configs.items word.now) }
     ensures bad_line { IsErrOf result LineError.BadLine → ¬ IsConfigs word.now }
 {
@@ -275,7 +275,7 @@ fn configs(alloc: Global, word: &[u8]) -> Result<Vec<BTreeSet<u64>>, LineError>
 
 /// Returns the numbers of a list, ascending and each once: `-` has none, and others are joined by
 /// commas.
-fn list(alloc: Global, word: &[u8]) -> Result<BTreeSet<u64>, LineError>
+pub fn list(alloc: Global, word: &[u8]) -> Result<BTreeSet<u64>, LineError>
     ensures list { IfOk result (λ numbers. IsListOf (contains nat_cmp numbers) word.now) }
     ensures bad_line { IsErrOf result LineError.BadLine → ¬ IsList word.now }
 {
@@ -305,19 +305,6 @@ const KINDS: [&[u8]; 8] = [
 /// Whether a word is the kind of a change.
 pub fn is_kind(word: &[u8]) -> bool {
     KINDS.contains(&word)
-}
-
-/// Whether a word is configs.
-pub fn is_configs(word: &[u8]) -> bool {
-    word == b"none".as_slice() || word.split(|byte| *byte == b'/').all(is_list)
-}
-
-/// Whether a word is a list.
-pub fn is_list(word: &[u8]) -> bool {
-    word == b"-".as_slice()
-        || word
-            .split(|byte| *byte == b',')
-            .all(|part| number(part).is_some())
 }
 
 /// Returns the value of decimal digits, if there are any and it fits.

@@ -1,7 +1,7 @@
 //! Why a line cannot be run, for the person who has written the script.
 
-use super::command::{Words, is_configs, is_kind, is_list, number};
-use std::alloc::AllocError;
+use super::command::{LineError, Words, configs, is_kind, list, number};
+use std::alloc::{AllocError, Global};
 
 /// How many bytes of a word are shown at most.
 const SHOWN: usize = 40;
@@ -17,12 +17,12 @@ enum Form {
 }
 
 impl Form {
-    /// Whether a word is of this form.
-    fn fits(self, word: &[u8]) -> bool {
+    /// Whether a word is of this form, or there is no memory to tell.
+    fn fits(self, alloc: Global, word: &[u8]) -> bool {
         match self {
             Form::Number => number(word).is_some(),
-            Form::List => is_list(word),
-            Form::Configs => is_configs(word),
+            Form::List => !matches!(list(alloc, word), Err(LineError::BadLine)),
+            Form::Configs => !matches!(configs(alloc, word), Err(LineError::BadLine)),
             Form::Kind => is_kind(word),
             Form::Retain => word == b"retain".as_slice() || word == b"drop".as_slice(),
         }
@@ -66,7 +66,7 @@ fn push_fault(reason: &mut String, mut words: Words<'_>, forms: &[Form]) -> Resu
         let Some(word) = words.next() else {
             return reason.push_str("a word is missing at the end\n");
         };
-        if !form.fits(word) {
+        if !form.fits(*reason.allocator(), word) {
             return push_word(reason, word, form.refusal());
         }
     }
