@@ -35,6 +35,7 @@ BUDGETS = {
     "cluster": 460,
     "raft_testing": 110,
     "first_example": 40,
+    "three_nodes": 200,
 }
 
 

@@ -41,6 +41,6 @@ run_program() {
 }
 
 for tests in *_tests raft_script; do run_tests "$tests"; done
-for program in raft_script first_example cluster; do run_program "$program"; done
+for program in raft_script first_example three_nodes cluster; do run_program "$program"; done
 echo "$passed passed, $failed failed, none proved, $SECONDS s"
 [ "$failed" = 0 ]

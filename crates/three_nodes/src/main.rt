@@ -1,0 +1,220 @@
+#![tactic(auto)]
+//! Three Raft servers in one process, over the steps of `raft_handlers`: they elect a leader, lose
+//! it, restart it from its disk, and change the members. `Server` is an engine to start yours from,
+//! and the functions below it are its network, in which a message is a call. Left out are timers,
+//! snapshots, clients, lost messages, and the greatest term that a server has heard of.
+
+use anyhow::{Context, Result, bail};
+use raft_base::leader_id_std::{CommittedLeaderId, LeaderId};
+use raft_base::{EmptyNode, LogIdOf, LogIdRangeOf, LogStateReader, VoteIn};
+use raft_handlers::{
+    AppendEntries, Candidate, Leader, Outcome, State, Stored, handle_append_entries,
+    handle_vote_request, restart_server, start_cluster,
+};
+use raft_members::{ChangeMembers, Membership};
+use raft_progress::InflightOf;
+use raft_state::{EntryOf, EntryPayload, SnapshotMetaOf};
+use std::alloc::Global;
+use std::collections::BTreeMap;
+
+type Request = AppendEntries<LeaderId<u64>, CommittedLeaderId, u64, EmptyNode, u64>;
+
+/// A server, whose state machine adds numbers. A crash leaves the disk and the sum.
+#[derive(Drop)]
+struct Server {
+    state: State<u64, EmptyNode, u64, LeaderId<u64>>,
+    leader: Option<Leader<u64, EmptyNode, CommittedLeaderId>>,
+    disk: Stored<LeaderId<u64>, CommittedLeaderId, u64, EmptyNode, u64>,
+    sum: u64,
+}
+
+impl Server {
+    /// Ends a step, before the server sends or answers: writes to disk the vote, a truncation, and
+    /// those of the entries that are new. A leader counts itself then, and commits what a quorum
+    /// has; it stops if it has promised a higher vote or is removed. What is committed is applied.
+    fn finish(&mut self, sent: &[EntryOf<CommittedLeaderId, u64, EmptyNode, u64>]) -> Result<()> {
+        let (state, disk) = (&mut self.state, &mut self.disk);
+        disk.vote = *state.vote_ref();
+        disk.entries.retain(|entry| state.get_log_id(entry.log_id.index) == Some(entry.log_id));
+        let last = state.last_log_id().copied();
+        let lacking = end(last).saturating_sub(disk.entries.len());
+        let (_, new) = sent.split_at(sent.len().saturating_sub(lacking));
+        disk.entries.extend_with_clones(new)?;
+        self.leader.take_if(|leader| !leader.leads(state));
+        if let Some(leader) = &mut self.leader {
+            leader.handle_flushed(state, last)?;
+            leader.commit(state)?;
+        }
+        self.leader.take_if(|leader| leader.is_removed(state));
+        let due = end(disk.committed)..end(state.committed);
+        for entry in disk.entries.get(due).context("not on disk")? {
+            if let EntryPayload::Normal(number) = &entry.payload {
+                self.sum = self.sum.saturating_add(*number);
+            }
+        }
+        disk.committed = state.committed;
+        Ok(())
+    }
+
+    /// Starts again from the disk after a crash, as a follower.
+    fn restart(&mut self) -> Result<()> {
+        self.state = restart_server(*self.disk.entries.allocator(), &self.disk)?;
+        self.leader = None;
+        self.finish(&[])
+    }
+
+    /// Appends an entry that adds a number.
+    fn add(&mut self, number: u64) -> Result<()> {
+        let leader = self.leader.as_ref().context("the server does not lead")?;
+        let entry = leader.propose(&mut self.state, number)?;
+        self.finish(&[entry])
+    }
+
+    /// Appends a membership that leads to these voters: first a joint one, and then the last.
+    fn change(&mut self, voters: &[u64]) -> Result<()> {
+        let change = ChangeMembers::replace_all(*self.disk.entries.allocator(), voters)?;
+        let leader = self.leader.as_mut().context("the server does not lead")?;
+        let entry = leader.propose_change(&mut self.state, change, false)?;
+        self.finish(&[entry])
+    }
+}
+
+/// Returns the index after a log id, or 0.
+fn end(last: Option<LogIdOf<CommittedLeaderId>>) -> usize {
+    last.map_or(0, |log_id| log_id.index.saturating_add(1) as usize)
+}
+
+/// Returns three servers, the first of which starts a cluster.
+fn start(alloc: Global) -> Result<BTreeMap<u64, Server>> {
+    let mut servers = BTreeMap::new(alloc);
+    for id in 1..=3 {
+        let disk = Stored {
+            vote: VoteIn::default(),
+            snapshot: SnapshotMetaOf::try_default(alloc)?,
+            entries: Vec::new(alloc),
+            committed: None,
+        };
+        let server = Server {
+            state: restart_server(alloc, &disk)?,
+            leader: None,
+            disk,
+            sum: 0,
+        };
+        servers.insert(id, server)?;
+    }
+    let nodes = (1..=3).map(|id| (id, EmptyNode::new())).collect(alloc)?;
+    let server = at(&mut servers, 1)?;
+    let entries = start_cluster(&mut server.state, &1, Membership::from_nodes(alloc, nodes)?)?;
+    server.finish(&entries)?;
+    Ok(servers)
+}
+
+fn at(servers: &mut BTreeMap<u64, Server>, id: u64) -> Result<&mut Server> {
+    servers.get_mut(&id).context("no such server")
+}
+
+/// Elects a server by its own vote and that of another voter. It then leads, with a blank entry.
+fn elect(servers: &mut BTreeMap<u64, Server>, id: u64, voter: u64) -> Result<()> {
+    let server = at(servers, id)?;
+    let mut candidate = Candidate::campaign(id, 0, &mut server.state)?;
+    server.finish(&[])?;
+    let server = at(servers, voter)?;
+    let response = handle_vote_request(&mut server.state, &candidate.request());
+    server.finish(&[])?;
+    candidate.handle_vote_response(&voter, &response);
+    let server = at(servers, id)?;
+    let leader = Leader::new(&mut server.state, &candidate)?;
+    let entry = leader.propose_blank(&mut server.state)?;
+    server.leader = Some(leader);
+    server.finish(&[entry])
+}
+
+/// Returns what the leader sends to a follower: entries that it lacks, or a heartbeat.
+fn next_request(server: &mut Server, to: u64) -> Result<Request> {
+    let leader = server.leader.as_mut().context("the server does not lead")?;
+    let last = server.state.last_log_id().copied();
+    let (request, range) = match leader.next_request(&server.state, &to, 64) {
+        Some(InflightOf::Logs { id, log_id_range }) => (Some(id), log_id_range),
+        Some(InflightOf::None) => (None, LogIdRangeOf::new(last, last)),
+        _ => bail!("the follower is no member, or is to be sent a snapshot"),
+    };
+    let places = end(range.prev)..end(range.last);
+    let entries = server.disk.entries.get(places).context("not on disk")?;
+    Ok(AppendEntries {
+        leader_id: server.state.vote_ref().leader_id,
+        request,
+        prev: range.prev,
+        entries: entries.to_vec(*server.disk.entries.allocator())?,
+        committed: server.state.committed,
+    })
+}
+
+/// A turn of the leader's loop: it sends to a follower, takes the response, and commits.
+fn send(servers: &mut BTreeMap<u64, Server>, id: u64, follower: u64) -> Result<()> {
+    let request = next_request(at(servers, id)?, follower)?;
+    let server = at(servers, follower)?;
+    let response = handle_append_entries(&mut server.state, &request)?;
+    server.finish(&request.entries)?;
+    let server = at(servers, id)?;
+    if let Outcome::HigherVote(vote) = response.outcome {
+        server.state.promise(vote);
+    }
+    if let Some(leader) = &mut server.leader {
+        // A response that is late or comes twice is refused, and changes nothing.
+        let _refused = leader.handle_response(&follower, &response);
+    }
+    server.finish(&[])
+}
+
+/// The leader's loop, with these followers.
+fn replicate(servers: &mut BTreeMap<u64, Server>, id: u64, followers: &[u64]) -> Result<()> {
+    for &follower in followers {
+        send(servers, id, follower)?;
+    }
+    Ok(())
+}
+
+/// Prints an event, and of each server the vote, the terms of its log, how many entries it has
+/// applied, their sum, and its voters: one set, or two if the membership is joint.
+fn show(servers: &BTreeMap<u64, Server>, rt: &HostRuntime, event: &str) -> Result<()> {
+    println!(rt; "{event}")?;
+    for (id, server) in servers {
+        let (vote, applied) = (server.disk.vote, end(server.disk.committed));
+        let entries = server.disk.entries.iter();
+        let log: Vec<u64> = entries
+            .map(|it| it.log_id.leader_id.term)
+            .collect(rt.alloc())?;
+        print!(rt;
+            "  server {id}: {vote}, log {log:?}, {applied} applied, sum {}",
+            server.sum
+        )?;
+        let members = server.state.membership_state.effective().membership();
+        println!(rt; ", voters {:?}", members.get_joint_config())?;
+    }
+    Ok(())
+}
+
+fn main(rt: HostRuntime) -> Result<()> {
+    let mut servers = start(rt.alloc())?;
+    elect(&mut servers, 1, 2)?;
+    at(&mut servers, 1)?.add(5)?;
+    replicate(&mut servers, 1, &[2, 3, 2, 3])?;
+    show(&servers, &rt, "1 is elected, and commits 5")?;
+    at(&mut servers, 1)?.add(7)?;
+    elect(&mut servers, 2, 3)?;
+    at(&mut servers, 2)?.add(20)?;
+    replicate(&mut servers, 2, &[3, 3])?;
+    show(&servers, &rt, "1 appends 7 and crashes; 2 commits 20")?;
+    at(&mut servers, 1)?.restart()?;
+    replicate(&mut servers, 2, &[1])?;
+    show(&servers, &rt, "1 restarts, follows 2, and truncates 7")?;
+    at(&mut servers, 2)?.change(&[1, 3])?;
+    replicate(&mut servers, 2, &[1, 3])?;
+    show(&servers, &rt, "2 commits a joint membership")?;
+    at(&mut servers, 2)?.change(&[1, 3])?;
+    replicate(&mut servers, 2, &[1, 3])?;
+    show(&servers, &rt, "2 commits that of 1 and 3, and stops")?;
+    elect(&mut servers, 3, 1)?;
+    replicate(&mut servers, 3, &[1, 1])?;
+    show(&servers, &rt, "3 is elected by 1, and commits")
+}
