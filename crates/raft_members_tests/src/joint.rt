@@ -74,6 +74,21 @@ fn least_size_is_greatest(alloc: Global) -> Result<bool, AllocError> {
     Ok([shared.least_quorum_size(), borrowed.least_quorum_size()] == [4, 4])
 }
 
+/// Whether the size of a single child decides for its joint, and no size for a joint of two.
+fn size_of_one_child_decides(alloc: Global) -> Result<bool, AllocError> {
+    let (one, two) = both(
+        shared_joint(alloc, "1,2,3"),
+        shared_joint(alloc, "1,2,3/3,4,5"),
+    )?;
+    let borrowed: BorrowedConfigs<'_> = one.children().as_joint();
+    let sizes = [
+        one.deciding_size(),
+        borrowed.deciding_size(),
+        two.deciding_size(),
+    ];
+    Ok(sizes == [Some(2), Some(2), None])
+}
+
 /// Returns what is wrong of a joint of lists, borrowed and shared, and of one without children, of
 /// which each list of ids is a quorum.
 fn wrong_joint(alloc: Global) -> Result<Option<&'static str>, AllocError> {
@@ -125,6 +140,8 @@ fn joints_have_the_ids_and_the_greatest_size_of_their_children(rt: HostRuntime) 
     assert_made(&rt, "joints", wrong_joint(rt.alloc()));
     let is_greatest = holds(least_size_is_greatest(rt.alloc()));
     assert_row(&rt, "the least size of quorums", is_greatest);
+    let decides = holds(size_of_one_child_decides(rt.alloc()));
+    assert_row(&rt, "the size that decides", decides);
     let are_cloned = holds(stated_sizes_are_cloned(rt.alloc()));
     assert_row(&rt, "stated sizes are cloned", are_cloned);
 }

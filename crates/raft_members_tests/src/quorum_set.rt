@@ -26,7 +26,7 @@ const ROWS: &str = "
 ";
 
 /// Whether a quorum set answers ids as the first word says, and has the least size of the second
-/// one and the ids of the third one.
+/// one, which decides, and the ids of the third one.
 fn is_set<QS: QuorumSet<u64>>(
     alloc: Global,
     set: &QS,
@@ -36,9 +36,10 @@ fn is_set<QS: QuorumSet<u64>>(
     let are_right = [
         set.is_quorum(asked) == (answer == "yes"),
         set.least_quorum_size() as u64 == number(size),
+        set.deciding_size() == Some(set.least_quorum_size()),
         has_ids(alloc, set, ids),
     ];
-    are_right == [true; 3]
+    are_right == [true; 4]
 }
 
 /// Returns which quorum set of the voters of a row is wrong.
