@@ -938,8 +938,8 @@ def mutants_of_rules():
     return len([path for path in paths if re.search(r"^file: specs/", path.read_text(), re.M)])
 
 
-def recorded_calls():
-    """Returns how many calls of the original are recorded: the rows in files `compared.rt` and `compared_states.rt`.
+def recorded_results():
+    """Returns how many results of the original are recorded: the rows in files `compared.rt` and `compared_states.rt`.
 
     A row may go on in the next line, and an empty line is none.
     """
@@ -954,7 +954,7 @@ COUNTED = [
     ("the N faults that were named", lambda: mutants_in("must-fail")),
     ("N further mutants", lambda: mutants_in("mutants")),
     ("the N mutants of `raft_safety` that change a rule", mutants_of_rules),
-    ("N recorded calls", recorded_calls),
+    ("N recorded results", recorded_results),
     ("N planted faults|N faults to plant", lambda: number_in("crates/cluster/src/fault.rt", r"; (\d+)\] = \[$")),
     ("N faults of openraft", lambda: lines_in("docs/FAULTS.md", r"^\| (?!fault |-)")),
     (
