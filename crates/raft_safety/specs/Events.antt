@@ -7,8 +7,8 @@ use Rattle.raft_safety.specs.Log.{Entry, IsPrefix}
 pub data Event (T ID D : Type 0) : Type 0 where
   -- the server grants its vote to a candidate of a term. A candidate votes for itself
   GrantVote : T → ID → Event T ID D
-  -- the server grants its vote to a candidate of a term in which it has taken entries. No election
-  -- counts this vote: the entries came from the term's elected leader
+  -- the server grants its vote to a candidate of a term in which it has taken entries. The vote is
+  -- late: the model counts it in no election
   LateVote : T → ID → Event T ID D
   -- the server takes entries from the leader of a term, and this is its log now. The leader does so
   -- too with what it writes
@@ -37,7 +37,7 @@ module _ {T ID D : Type 0} where
   term_after rank (Append t c log ∷ es) = rank t
   term_after rank (x ∷ es) = term_after rank es
 
-  -- the rank of the term in which the server has voted last, 0 if it has not voted
+  -- the rank of the term in which the server has voted last, in time or late, 0 if it has not voted
   abbrev pub voted_after : (T → ℕ) → List (Event T ID D) → ℕ
   voted_after rank [] = 0
   voted_after rank (GrantVote t c ∷ es) = rank t

@@ -31,7 +31,7 @@ module _ {T ID D M : Type 0} (rank : T → ℕ) (config_of : D → Option M) (in
       pub is : new.events s ≡ event ∷ old.events s
       pub may : MayDo s event
 
-    -- no server has voted for the candidate yet, and it has written nothing as a leader
+    -- no server has voted for the candidate in time yet, and it has written nothing as a leader
     pub record StartsCampaign (t : T) (c : ID) : Type 0 where
       pub no_votes : (s : ID) → HasVoted t c (old.events s) → ⊥
       pub nothing_written : new.leader_log t c ≡ new.candidate_log t c

@@ -4,7 +4,8 @@ use Rattle.raft_safety.specs.Log.{Entry}
 use Rattle.raft_safety.specs.Events.{Event, GrantVote, Ack, History}
 
 module _ {T ID D : Type 0} where
-  -- the server has granted its vote in this term to this candidate
+  -- the server has granted its vote in this term to this candidate in time, before it took entries of
+  -- the term. A late vote is not counted
   abbrev pub HasVoted : T → ID → List (Event T ID D) → Type 0
   HasVoted t c [] = ⊥
   HasVoted t c (GrantVote u d ∷ es) = ((u ≡ t) × (d ≡ c)) ⊎ HasVoted t c es
@@ -20,7 +21,7 @@ module _ {T ID D : Type 0} where
 module _ {T ID D : Type 0} (rank : T → ℕ) (quorum : List (Entry T D) → (ID → Bool) → Bool)
     (h : History T ID D) where
   -- a candidate is elected in a term: it has voted for itself, and so has a quorum of the config in
-  -- effect in its log
+  -- effect in its log, each server in time (`HasVoted`)
   pub record IsElected (t : T) (c : ID) : Type 0 where
     pub voters : ID → Bool
     pub is_quorum : quorum (h.candidate_log t c) voters ≡ true

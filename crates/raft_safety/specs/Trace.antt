@@ -66,8 +66,8 @@ use Rattle.raft_safety.specs.declared.rule.Rule.TheVariants.{
 pub data TraceEvent (T ID D : Type 0) : Type 0 where
   -- a server starts a campaign in a term, with its log as it is, and votes for itself
   Campaigned : ID → T → TraceEvent T ID D
-  -- a server grants its vote in a term to another, a candidate. If it has taken entries in the term, no
-  -- election counts the vote
+  -- a server grants its vote in a term to another, a candidate. If it has taken entries in the term,
+  -- the vote is late, and no election counts it
   Granted : ID → T → ID → TraceEvent T ID D
   -- a server takes entries in a term from its leader: it keeps so many first entries of its log, and
   -- has these after them
@@ -141,7 +141,7 @@ module _ {T ID D M : Type 0} (k : Tests T ID D M) where
   abbrev pub term_in : List (TraceEvent T ID D) → ID → ℕ
   term_in es s = term_after k.rank (events_in es s)
 
-  -- the rank of the term in which a server has voted last, 0 if it has not voted
+  -- the rank of the term in which a server has voted last, in time or late, 0 if it has not voted
   abbrev pub voted_in : List (TraceEvent T ID D) → ID → ℕ
   voted_in es s = voted_after k.rank (events_in es s)
 
@@ -214,7 +214,8 @@ module _ {T ID D M : Type 0} (k : Tests T ID D M) where
 -- ---- tests of one server's events
 
 module _ {T ID D M : Type 0} (k : Tests T ID D M) where
-  -- the server has granted its vote in this term to this candidate
+  -- the server has granted its vote in this term to this candidate in time, before it took entries of
+  -- the term. A late vote is not counted
   abbrev pub has_voted : T → ID → List (Event T ID D) → Bool
   has_voted u d [] = false
   has_voted u d (GrantVote t c ∷ es) = same_leader k t c u d || has_voted u d es
@@ -258,7 +259,8 @@ module _ {T ID D M : Type 0} (k : Tests T ID D M) where
   has_campaigned u d (Campaigned c t ∷ es) = same_leader k t c u d || has_campaigned u d es
   has_campaigned u d (x ∷ es) = has_campaigned u d es
 
-  -- a candidate is elected: it and a quorum of the config in its log have voted for it in the term
+  -- a candidate is elected: it and a quorum of the config in its log have voted for it in the term, each
+  -- in time
   abbrev pub is_elected : List (TraceEvent T ID D) → T → ID → Bool
   is_elected es t c =
       has_voted k t c (events_in k es c)

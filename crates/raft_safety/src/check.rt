@@ -34,13 +34,13 @@ pub fn check<T: Term, N: Copy + Eq, D: Copy + Eq, C: Configs<N, D> + Drop>(
     configs: C,
     events: &[Event<T, N, D>],
 ) -> Result<(), Refused>
-    ensures allowed { OnOk result (AreExact (tests_of T.Term N.PartialEq D.PartialEq C.Configs configs) →
-        are_allowed (tests_of T.Term N.PartialEq D.PartialEq C.Configs configs) (trace_of events.now) ≡ true) }
-    ensures safe { OnOk result (AreExact (tests_of T.Term N.PartialEq D.PartialEq C.Configs configs) →
-        TermsHaveRanks (tests_of T.Term N.PartialEq D.PartialEq C.Configs configs) (trace_of events.now) →
-        IsSafeTrace (tests_of T.Term N.PartialEq D.PartialEq C.Configs configs) (trace_of events.now)) }
-    ensures refused { IfErr result (λ r. AreExact (tests_of T.Term N.PartialEq D.PartialEq C.Configs configs) →
-        IsFirstRefused (tests_of T.Term N.PartialEq D.PartialEq C.Configs configs) events.now r.event r.violation) }
+    ensures allowed { let k = tests_of T.Term N.PartialEq D.PartialEq C.Configs configs in
+        OnOk result (AreExact k → are_allowed k (trace_of events.now) ≡ true) }
+    ensures safe { let k = tests_of T.Term N.PartialEq D.PartialEq C.Configs configs in
+        OnOk result (AreExact k → TermsHaveRanks k (trace_of events.now) →
+        IsSafeTrace k (trace_of events.now)) }
+    ensures refused { let k = tests_of T.Term N.PartialEq D.PartialEq C.Configs configs in
+        IfErr result (λ r. AreExact k → IsFirstRefused k events.now r.event r.violation) }
 {
     let mut checker = match Checker::new(alloc, configs) {
         Ok(checker) => checker,

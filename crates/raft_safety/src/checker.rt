@@ -69,7 +69,8 @@ impl<T: Term, N: Copy + Eq, D: Copy + Eq, C: Configs<N, D> + Drop> Checker<T, N,
     /// not been recorded.
     pub fn record(&mut self, event: &Event<T, N, D>) -> Result<(), Violation>
         ensures configs { configs_of self.new ≡ configs_of self.old }
-        ensures answer { Records (tests_of T.Term N.PartialEq D.PartialEq C.Configs (configs_of self.old))
+        ensures answer { Records
+            (tests_of T.Term N.PartialEq D.PartialEq C.Configs (configs_of self.old))
             (event_of event.now) self.old self.new result }
     {
         match event {
@@ -116,7 +117,8 @@ impl<T: Term, N: Copy + Eq, D: Copy + Eq, C: Configs<N, D> + Drop> Checker<T, N,
     /// A server starts a campaign.
     fn campaigned(&mut self, server: N, term: T) -> Result<(), Violation>
         ensures configs { self.new.configs ≡ self.old.configs }
-        ensures answer { Answers (tests_of T.Term N.PartialEq D.PartialEq C.Configs self.old.configs)
+        ensures answer { Answers
+            (tests_of T.Term N.PartialEq D.PartialEq C.Configs self.old.configs)
             (Campaigned server term) self.old.servers.items self.old.leaders.items
             self.new.servers.items self.new.leaders.items result }
     {
@@ -141,7 +143,8 @@ impl<T: Term, N: Copy + Eq, D: Copy + Eq, C: Configs<N, D> + Drop> Checker<T, N,
     /// A server grants its vote.
     fn granted(&mut self, server: N, term: T, candidate: N) -> Result<(), Violation>
         ensures configs { self.new.configs ≡ self.old.configs }
-        ensures answer { Answers (tests_of T.Term N.PartialEq D.PartialEq C.Configs self.old.configs)
+        ensures answer { Answers
+            (tests_of T.Term N.PartialEq D.PartialEq C.Configs self.old.configs)
             (Granted server term candidate) self.old.servers.items self.old.leaders.items
             self.new.servers.items self.new.leaders.items result }
     {
@@ -156,6 +159,9 @@ impl<T: Term, N: Copy + Eq, D: Copy + Eq, C: Configs<N, D> + Drop> Checker<T, N,
             None => {}
         }
         let voter = &mut self.servers[i];
+        // The server has taken entries in the term, so its vote is late. No election counts it: the
+        // rules are about whole histories, in which a late vote could otherwise elect the leader
+        // from which the server took these entries.
         if rank <= voter.term {
             voter.vote_late(rank);
             return Ok(());
@@ -176,10 +182,10 @@ impl<T: Term, N: Copy + Eq, D: Copy + Eq, C: Configs<N, D> + Drop> Checker<T, N,
         entries: &[Entry<T, D>],
     ) -> Result<(), Violation>
         ensures configs { self.new.configs ≡ self.old.configs }
-        ensures answer { Answers (tests_of T.Term N.PartialEq D.PartialEq C.Configs self.old.configs)
+        ensures answer { Answers
+            (tests_of T.Term N.PartialEq D.PartialEq C.Configs self.old.configs)
             (Appended server term leader keep entries.now) self.old.servers.items
-            self.old.leaders.items
-            self.new.servers.items self.new.leaders.items result }
+            self.old.leaders.items self.new.servers.items self.new.leaders.items result }
     {
         let j = match leader_at(&self.leaders, term, leader) {
             Some(j) => j,
@@ -198,7 +204,8 @@ impl<T: Term, N: Copy + Eq, D: Copy + Eq, C: Configs<N, D> + Drop> Checker<T, N,
     /// A server acknowledges entries.
     fn acked(&mut self, server: N, term: T, leader: N, len: usize) -> Result<(), Violation>
         ensures configs { self.new.configs ≡ self.old.configs }
-        ensures answer { Answers (tests_of T.Term N.PartialEq D.PartialEq C.Configs self.old.configs)
+        ensures answer { Answers
+            (tests_of T.Term N.PartialEq D.PartialEq C.Configs self.old.configs)
             (Acked server term leader len) self.old.servers.items self.old.leaders.items
             self.new.servers.items self.new.leaders.items result }
     {
@@ -220,7 +227,8 @@ impl<T: Term, N: Copy + Eq, D: Copy + Eq, C: Configs<N, D> + Drop> Checker<T, N,
     /// A server restarts.
     fn restarted(&mut self, server: N, len: usize) -> Result<(), Violation>
         ensures configs { self.new.configs ≡ self.old.configs }
-        ensures answer { Answers (tests_of T.Term N.PartialEq D.PartialEq C.Configs self.old.configs)
+        ensures answer { Answers
+            (tests_of T.Term N.PartialEq D.PartialEq C.Configs self.old.configs)
             (Restarted server len) self.old.servers.items self.old.leaders.items
             self.new.servers.items self.new.leaders.items result }
     {
@@ -236,7 +244,8 @@ impl<T: Term, N: Copy + Eq, D: Copy + Eq, C: Configs<N, D> + Drop> Checker<T, N,
     /// A leader writes an entry.
     fn wrote(&mut self, leader: N, term: T, entry: Entry<T, D>) -> Result<(), Violation>
         ensures configs { self.new.configs ≡ self.old.configs }
-        ensures answer { Answers (tests_of T.Term N.PartialEq D.PartialEq C.Configs self.old.configs)
+        ensures answer { Answers
+            (tests_of T.Term N.PartialEq D.PartialEq C.Configs self.old.configs)
             (Wrote leader term entry) self.old.servers.items self.old.leaders.items
             self.new.servers.items self.new.leaders.items result }
     {
@@ -261,7 +270,8 @@ impl<T: Term, N: Copy + Eq, D: Copy + Eq, C: Configs<N, D> + Drop> Checker<T, N,
         counted_at: usize,
     ) -> Result<(), Violation>
         ensures configs { self.new.configs ≡ self.old.configs }
-        ensures answer { Answers (tests_of T.Term N.PartialEq D.PartialEq C.Configs self.old.configs)
+        ensures answer { Answers
+            (tests_of T.Term N.PartialEq D.PartialEq C.Configs self.old.configs)
             (Committed leader term len counted_at) self.old.servers.items self.old.leaders.items
             self.new.servers.items self.new.leaders.items result }
     {
@@ -285,8 +295,8 @@ impl<T: Term, N: Copy + Eq, D: Copy + Eq, C: Configs<N, D> + Drop> Checker<T, N,
     /// A server applies entries.
     fn applied(&mut self, server: N, term: T, leader: N, len: usize) -> Result<(), Violation>
         ensures configs { self.new.configs ≡ self.old.configs }
-        ensures answer { Answers (tests_of T.Term N.PartialEq D.PartialEq C.Configs
-            self.old.configs)
+        ensures answer { Answers
+            (tests_of T.Term N.PartialEq D.PartialEq C.Configs self.old.configs)
             (Applied server term leader len) self.old.servers.items self.old.leaders.items
             self.new.servers.items self.new.leaders.items result }
     {

@@ -16,7 +16,7 @@ pub enum Event<T, N, D> {
         term: T,
     },
     /// A server grants its vote in a term to another server. The vote is durable. If the server has
-    /// taken entries in the term, no election counts the vote.
+    /// taken entries in the term, the vote is late, and the checker counts it in no election.
     Granted {
         /// The server.
         server: N,

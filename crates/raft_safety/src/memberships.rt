@@ -22,8 +22,8 @@ pub struct Memberships<N, D> {
 }
 
 /// A quorum is a majority of each config. Two memberships are known to have intersecting quorums if
-/// they share a config, or if any majorities of a config of one and of a config of the other share a
-/// server. So a membership may change to one whose config has one server more or less.
+/// they share a config, or if any majorities of a config of one and of a config of the other share
+/// a server. So a membership may change to one whose config has one server more or less.
 impl<N: Copy + Ord, D: Copy + Eq> Configs<N, D> for Memberships<N, D> {
     ghost holds_config = { λ m d. list_any (λ p. D.eq p.0 d) m.held.items };
 

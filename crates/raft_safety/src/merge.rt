@@ -42,10 +42,11 @@ pub fn check_each<T: Term, N: Copy + Eq, D: Copy + Eq, C: Configs<N, D> + Drop>(
     configs: C,
     lists: &[Vec<Event<T, N, D>>],
 ) -> Result<(), Unplaced>
-    ensures safe { OnOk result (AreExact (tests_of T.Term N.PartialEq D.PartialEq C.Configs configs) →
-        HaveSafeOrder (tests_of T.Term N.PartialEq D.PartialEq C.Configs configs) lists.now) }
-    ensures refused { IfErr result (λ u. AreExact (tests_of T.Term N.PartialEq D.PartialEq C.Configs configs) →
-        IsRefusedMerge (tests_of T.Term N.PartialEq D.PartialEq C.Configs configs) lists.now u.placed.items u.list u.violation) }
+    ensures safe { let k = tests_of T.Term N.PartialEq D.PartialEq C.Configs configs in
+        OnOk result (AreExact k → HaveSafeOrder k lists.now) }
+    ensures refused { let k = tests_of T.Term N.PartialEq D.PartialEq C.Configs configs in
+        IfErr result (λ u. AreExact k →
+        IsRefusedMerge k lists.now u.placed.items u.list u.violation) }
 {
     let Ok(mut placed) = vec![in alloc; 0; lists.len()] else {
         return Err(Unplaced {
@@ -97,7 +98,8 @@ fn record_next<T: Term, N: Copy + Eq, D: Copy + Eq, C: Configs<N, D> + Drop>(
     ensures ended { IfOk result (λ more. IsFalse more →
         (placed.new ≡ placed.old) × AreAllPlaced lists.now placed.old) }
     ensures same { OnErr result (placed.new ≡ placed.old) }
-    ensures records { RecordsNext (tests_of T.Term N.PartialEq D.PartialEq C.Configs (configs_of checker.old)) lists.now
+    ensures records { RecordsNext
+        (tests_of T.Term N.PartialEq D.PartialEq C.Configs (configs_of checker.old)) lists.now
         placed.old checker.old placed.new checker.new result }
 {
     let mut refused = None;

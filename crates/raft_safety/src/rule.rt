@@ -8,8 +8,8 @@ use std::fmt;
 pub enum Rule {
     /// Quorums of the initial config have to intersect each other.
     InitialConfig,
-    /// A server does not go back to a term. It campaigns only in a term that it has not reached, and
-    /// it votes once in a term.
+    /// A server does not go back to a term. It campaigns only in a term that it has not reached,
+    /// and it votes once in a term.
     PassedTerm,
     /// A server campaigns once in a term.
     CampaignedTwice,

@@ -65,7 +65,8 @@ module _ {T ID D : Type 0} (k : Tests T ID D (Option D)) where
     pub committed : (log : List (Entry T D)) → is_config_committed k t c log es ≡ config_committed (hold_no_config k) l.committed log
     pub within : MatchOption l.committed (Unit {0}) (λ n. n ≤ length l.log.items)
 
-  -- this server has not campaigned in this term, and no server has voted for it or sent it acks
+  -- this server has not campaigned in this term, and no server has voted for it in time, or sent it
+  -- acks
   pub record SeesNoLeader (es : List (TraceEvent T ID D)) (t : T) (c : ID) : Type 0 where
     pub campaigned : has_campaigned k t c es ≡ false
     pub candidate_log : candidate_log_in k es t c ≡ []

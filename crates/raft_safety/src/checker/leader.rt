@@ -32,7 +32,7 @@ pub struct Leader<T, N, D> {
     pub start: usize,
     /// The log of the leader.
     pub log: Vec<Entry<T, D>>,
-    /// The servers that have voted for the candidate, each once.
+    /// The servers that have voted for the candidate in time, each once.
     pub voters: Vec<N>,
     /// Whether the candidate is elected.
     pub elected: bool,

@@ -23,7 +23,8 @@ pub struct Server<T, N, D> {
     pub id: N,
     /// The rank of the term that the server has reached.
     pub term: u128,
-    /// The rank of the term in which the server has voted last, 0 if it has not voted.
+    /// The rank of the term in which the server has voted last, in time or late, 0 if it has not
+    /// voted.
     pub voted: u128,
     /// The log of the server.
     pub log: Vec<Entry<T, D>>,
@@ -98,7 +99,7 @@ impl<T: Term, N: Copy + Eq, D: Copy + Eq> Server<T, N, D> {
         self.voted = term;
     }
 
-    /// Votes in a term that the server has reached.
+    /// Votes late, in a term that the server has reached.
     pub fn vote_late(&mut self, term: u128)
         ensures voted { self.new.voted ≡ term }
         ensures same_id { self.new.id ≡ self.old.id }
