@@ -9,8 +9,32 @@ use raft_safety::term::Term;
 use raft_testing::facts::first_wrong;
 use std::test::Fail;
 
+/// Two memberships of `three`, each by the content of its entry, and whether their quorums are known
+/// to intersect.
+const PAIRS: [(&str, Option<u64>, Option<u64>, bool); 9] = [
+    ("a shared config", None, Some(100), true),
+    ("no shared config", None, Some(101), false),
+    ("one server more", None, Some(102), true),
+    ("one more than four", Some(102), Some(103), true),
+    ("one server less", Some(102), None, true),
+    ("two servers more", None, Some(103), false),
+    ("two servers less", Some(103), None, false),
+    ("one config with one more", Some(100), Some(102), true),
+    ("each config with two more", Some(100), Some(103), false),
+];
+
+/// Returns the name of the first pair of memberships for which the answer is wrong.
+fn wrong_pair(memberships: &Memberships<u64, u64>) -> Option<&'static str> {
+    for (name, config, other, intersect) in PAIRS {
+        if memberships.do_intersect(config, other) != intersect {
+            return Some(name);
+        }
+    }
+    None
+}
+
 /// Returns which answer of the memberships of `three` is wrong. Content 100 holds the joint one of
-/// 0, 1, 2 and 2, 3, 4, and content 101 that of 2, 3, 4.
+/// 0, 1, 2 and 2, 3, 4.
 fn wrong_membership(memberships: &Memberships<u64, u64>) -> Option<&'static str> {
     first_wrong(&[
         ("a content with a config", memberships.holds_config(100)),
@@ -24,11 +48,6 @@ fn wrong_membership(memberships: &Memberships<u64, u64>) -> Option<&'static str>
         (
             "of both configs",
             memberships.is_quorum(Some(100), &[0, 2, 3]),
-        ),
-        ("a shared config", memberships.do_intersect(None, Some(100))),
-        (
-            "no shared config",
-            !memberships.do_intersect(None, Some(101)),
         ),
     ])
 }
@@ -47,7 +66,9 @@ fn wrong_rank() -> Option<&'static str> {
 #[test]
 fn memberships_and_terms_answer(rt: HostRuntime) -> Result<(), Fail> {
     let memberships = three(rt.alloc())?;
-    let wrong = wrong_membership(&memberships).or(wrong_rank());
+    let wrong = wrong_membership(&memberships)
+        .or(wrong_pair(&memberships))
+        .or(wrong_rank());
     assert!(rt; wrong.is_none(), "{}", wrong.unwrap_or(""));
     Ok(())
 }

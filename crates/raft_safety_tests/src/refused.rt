@@ -7,19 +7,24 @@ use crate::recorded::{
 use raft_safety::check::{Refused, check};
 use raft_safety::checker::Violation;
 use raft_safety::rule::Rule;
+use raft_testing::memory::both;
 use std::alloc::{AllocError, Global};
 use std::test::Fail;
 
-/// Server 0 leads in term 1 with a vote of server 1, and has an entry. Server 2, which has no
-/// entry, campaigns in term 2.
+/// Server 0 leads in term 1 with a vote of server 1, and has an entry. Server 4, which has not
+/// voted, takes the entry. Server 2, which has no entry, campaigns in term 2.
 fn led(alloc: Global) -> Result<Vec<Recorded>, AllocError> {
-    let taken = appended(alloc, (0, 1, 0), 0, (1, 10))?;
+    let (taken, also_taken) = both(
+        appended(alloc, (0, 1, 0), 0, (1, 10)),
+        appended(alloc, (4, 1, 0), 0, (1, 10)),
+    )?;
     Ok(vec![in alloc;
         campaigned(0, 1),
         granted(1, 1, 0),
         wrote(0, 1, (1, 10)),
         taken,
         acked(0, 1, 0, 1),
+        also_taken,
         campaigned(2, 2),
     ]?)
 }
@@ -47,6 +52,8 @@ fn refuses_each_event_for_its_rule(rt: HostRuntime) -> Result<(), Fail> {
         (campaigned(1, 1), Rule::PassedTerm),
         (granted(1, 1, 0), Rule::PassedTerm),
         (granted(0, 2, 2), Rule::CandidateBehind),
+        // server 4 would vote late, and the leader campaigned with no entry
+        (granted(4, 1, 0), Rule::CandidateBehind),
         (granted(0, 2, 1), Rule::NoCampaign),
         (kept(alloc, (2, 1, 0), 0), Rule::PassedTerm),
         (kept(alloc, (1, 1, 2), 0), Rule::NotElected),
@@ -67,6 +74,8 @@ fn refuses_each_event_for_its_rule(rt: HostRuntime) -> Result<(), Fail> {
         (committed(0, 1, 1, 0), Rule::CountedEarly),
         (committed(0, 1, 1, 2), Rule::NotWritten),
         (committed(0, 1, 1, 1), Rule::NoQuorum),
+        (applied(0, 2, 2, 0), Rule::NotElected),
+        (applied(0, 1, 0, 2), Rule::NotWritten),
         (applied(1, 1, 0, 1), Rule::NotInLog),
         (applied(0, 1, 0, 1), Rule::NotCommitted),
     ] {

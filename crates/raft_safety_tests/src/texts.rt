@@ -4,17 +4,9 @@ use crate::recorded::{Recorded, acked, wrote};
 use raft_safety::entry::Entry;
 use raft_safety::event::Event;
 use raft_safety::memberships::Memberships;
+use raft_testing::printing::debugs;
 use std::alloc::{AllocError, Global};
-use std::fmt::Debug;
 use std::test::Fail;
-
-/// Whether the debug text of a value is the text.
-fn debugs<T: Debug>(alloc: Global, value: &T, text: &str) -> bool {
-    match format!(in alloc; "{value:?}") {
-        Ok(said) => said.as_str() == text,
-        Err(_) => false,
-    }
-}
 
 /// Whether memberships with one that an entry of content 7 holds have their text.
 fn memberships_print(alloc: Global) -> Result<bool, AllocError> {
