@@ -23,7 +23,8 @@ but --help or -h, which print this text. These are the lines of a script:
 
 A list is - or ids joined by commas, and configs are none or lists joined by slashes. The kinds are
 add-ids, add, remove, replace, add-nodes, set-nodes, remove-nodes and replace-nodes. The status is 0
-at the end of the script, 2 after a line that cannot be run, and 1 after an error.
+at the end of the script, 2 after a line that cannot be run, 2 at once if there are other words on
+the command line, and 1 after an error.
 ";
 
 fn main(rt: HostRuntime) -> ExitCode {

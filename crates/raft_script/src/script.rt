@@ -34,8 +34,8 @@ pub fn run<R: Read + Drop, W: Write>(alloc: Global, reader: R, writer: &mut W) -
     run_explained(alloc, reader, writer, &mut String::new(alloc))
 }
 
-/// Runs the script of `reader` like `run`. After a line that cannot be run, `reason` has a line that
-/// says why, if there is memory for it.
+/// Runs the script of `reader` like `run`. After a line that cannot be run, `reason` has a line
+/// that says why, if there is memory for it.
 pub fn run_explained<R: Read + Drop, W: Write>(
     alloc: Global,
     reader: R,

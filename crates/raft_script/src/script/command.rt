@@ -60,6 +60,7 @@ pub fn parse(alloc: Global, line: &[u8]) -> Result<Option<Command>, LineError>
 /// The words of a line, which are separated by spaces.
 #[derive(Drop)]
 pub struct Words<'a> {
+    /// What is left of the line.
     pub rest: &'a [u8],
 }
 
@@ -137,7 +138,7 @@ impl<'a> Words<'a> {
     }
 
     /// Whether the next word says that removed voters stay as learners.
-    fn retain(&mut self) -> Result<bool, LineError>
+    pub fn retain(&mut self) -> Result<bool, LineError>
         ensures ok { IfOk result (λ retain. Takes (Is (retain_word retain)) self.old self.new) }
         ensures err { OnErr result (LacksRetain (left_in self.old)) }
     {
@@ -221,7 +222,7 @@ impl<'a> Words<'a> {
 }
 
 /// Returns the change of a kind with these ids.
-fn change_of(
+pub fn change_of(
     alloc: Global,
     kind: &[u8],
     ids: BTreeSet<u64>,
@@ -288,23 +289,6 @@ pub fn list(alloc: Global, word: &[u8]) -> Result<BTreeSet<u64>, LineError>
         numbers.insert(number).map_err(AllocError::from)?;
     }
     Ok(numbers)
-}
-
-/// The kinds of changes.
-const KINDS: [&[u8]; 8] = [
-    b"add-ids",
-    b"add",
-    b"remove",
-    b"replace",
-    b"add-nodes",
-    b"set-nodes",
-    b"remove-nodes",
-    b"replace-nodes",
-];
-
-/// Whether a word is the kind of a change.
-pub fn is_kind(word: &[u8]) -> bool {
-    KINDS.contains(&word)
 }
 
 /// Returns the value of decimal digits, if there are any and it fits.

@@ -1,7 +1,8 @@
 //! Why a line cannot be run, for the person who has written the script.
 
-use super::command::{LineError, Words, configs, is_kind, list, number};
+use super::command::{LineError, Words, change_of, configs, list, number};
 use std::alloc::{AllocError, Global};
+use std::collections::BTreeSet;
 
 /// How many bytes of a word are shown at most.
 const SHOWN: usize = 40;
@@ -17,14 +18,14 @@ enum Form {
 }
 
 impl Form {
-    /// Whether a word is of this form, or there is no memory to tell.
-    fn fits(self, alloc: Global, word: &[u8]) -> bool {
+    /// Whether a word is of this form.
+    fn fits(self, alloc: Global, word: &[u8]) -> Result<bool, AllocError> {
         match self {
-            Form::Number => number(word).is_some(),
-            Form::List => !matches!(list(alloc, word), Err(LineError::BadLine)),
-            Form::Configs => !matches!(configs(alloc, word), Err(LineError::BadLine)),
-            Form::Kind => is_kind(word),
-            Form::Retain => word == b"retain".as_slice() || word == b"drop".as_slice(),
+            Form::Number => Ok(number(word).is_some()),
+            Form::List => is_read(list(alloc, word)),
+            Form::Configs => is_read(configs(alloc, word)),
+            Form::Kind => is_read(change_of(alloc, word, BTreeSet::new(alloc))),
+            Form::Retain => is_read(Words { rest: word }.retain()),
         }
     }
 
@@ -37,6 +38,15 @@ impl Form {
             Form::Kind => "is no kind of change",
             Form::Retain => "is neither `retain` nor `drop`",
         }
+    }
+}
+
+/// Whether a word was read.
+fn is_read<T: Drop>(read: Result<T, LineError>) -> Result<bool, AllocError> {
+    match read {
+        Ok(_) => Ok(true),
+        Err(LineError::BadLine) => Ok(false),
+        Err(LineError::OutOfMemory(error)) => Err(error),
     }
 }
 
@@ -66,7 +76,7 @@ fn push_fault(reason: &mut String, mut words: Words<'_>, forms: &[Form]) -> Resu
         let Some(word) = words.next() else {
             return reason.push_str("a word is missing at the end\n");
         };
-        if !form.fits(*reason.allocator(), word) {
+        if !form.fits(*reason.allocator(), word)? {
             return push_word(reason, word, form.refusal());
         }
     }
