@@ -100,7 +100,7 @@ statuses() {
 options() {
     local said widest
     compare "no cluster" 1 "" "Error: 'seeds=0' runs no cluster" cluster seeds=0
-    compare "too few seeds" 1 "" "Error: there are fewer seeds from 18446744073709551615 on" \
+    compare "too few seeds" 1 "" "Error: there are not so many seeds from 18446744073709551615 on" \
         cluster seed=18446744073709551615 seeds=2
     compare "an option twice" 1 "" "Error: 'seed' comes more than once" cluster seed=1 chart=0 seed=2
     compare "no option" 1 "" "Error: 'sed=1' is no option; \`--help\` lists the options" cluster sed=1

@@ -7,8 +7,8 @@ use raft_base::LogStateReader;
 use std::alloc::AllocError;
 use std::ops::Range;
 
-/// How many indexes of a log are shown. With six of them, and two digits of a term, a row has at most
-/// 100 columns.
+/// How many indexes of a log are shown. With six of them, and two digits of a term, a row has at
+/// most 100 columns.
 const WIDTH: u64 = 6;
 
 /// What the signs mean, and the head of the columns.
@@ -31,7 +31,7 @@ impl Cluster {
         Ok(())
     }
 
-    /// Draws a row.
+    /// Draws a row: each server, the members of the last leader, and what has happened.
     pub fn draw(&self, chart: &mut String) -> Result<(), AllocError> {
         let first = (self.history.committed.len() as u64).saturating_sub(WIDTH / 2);
         write!(chart, "{:>4} ", self.tally.events)?;
@@ -132,7 +132,7 @@ fn draw_members(members: &Members, chart: &mut String) -> Result<(), AllocError>
     Ok(())
 }
 
-/// Draws a node id.
+/// Draws a node id in decimal digits.
 fn draw_id(id: u64, chart: &mut String) -> Result<(), AllocError> {
     write!(chart, "{id}")
 }

@@ -115,7 +115,7 @@ impl Cluster {
         Err(Violation::Convergence)
     }
 
-    /// Lets something happen.
+    /// Lets a random event of a table happen.
     fn step(&mut self, table: &[(Event, u64)]) -> Result<(), Violation> {
         self.tally.count_event();
         self.network.lose_old(self.tally.events);

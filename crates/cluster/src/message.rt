@@ -11,11 +11,11 @@ pub struct Message {
     pub to: u64,
     /// How many events had happened when it was sent.
     pub sent: u64,
-    /// What it says.
+    /// The request or the response.
     pub content: Content,
 }
 
-/// What a message says.
+/// The request or the response that a message has.
 #[derive(Drop)]
 pub enum Content {
     /// A candidate asks for a vote.

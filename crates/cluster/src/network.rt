@@ -77,7 +77,7 @@ impl Network {
         News::Splits
     }
 
-    /// Mends the network.
+    /// Ends the partition, if there is one.
     pub fn mend(&mut self) {
         self.cut_off = [false; 5];
     }

@@ -66,7 +66,7 @@ impl Options {
             bail!("'seeds=0' runs no cluster");
         };
         if options.seed.checked_add(others).is_none() {
-            bail!("there are fewer seeds from {} on", options.seed);
+            bail!("there are not so many seeds from {} on", options.seed);
         }
         Ok(options)
     }

@@ -61,7 +61,7 @@ impl From<Refused> for Violation {
 /// A leader that was elected.
 #[derive(Clone, Copy)]
 pub struct Leadership {
-    /// The server.
+    /// The id of the server that was elected.
     pub server: u64,
     /// How many were elected before.
     pub number: usize,
@@ -72,7 +72,7 @@ pub struct Leadership {
 /// An entry that was committed.
 #[derive(Clone, Copy)]
 pub struct CommittedEntry {
-    /// Its log id.
+    /// The log id of the entry.
     pub log_id: LogId,
     /// The committed leader id of the leader that was the first to commit it.
     pub by: CommittedLeaderId,

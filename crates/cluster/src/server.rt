@@ -13,7 +13,7 @@ use std::alloc::{AllocError, Global};
 /// How many servers there are. The first three are the first voters.
 pub const SERVERS: u64 = 5;
 
-/// What a server does.
+/// The role of a server, with what it knows in this role.
 #[derive(Drop)]
 pub enum Role {
     /// It waits for entries of a leader.
@@ -28,7 +28,7 @@ pub enum Role {
 #[derive(Drop)]
 pub struct Server {
     pub id: u64,
-    /// What it does wrong.
+    /// The planted fault, if there is one.
     pub fault: Option<Fault>,
     pub role: Role,
     /// For how many more ticks it waits for a leader before it campaigns.

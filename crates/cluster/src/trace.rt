@@ -23,7 +23,7 @@ type Act = LawEvent<Term, u64, u64>;
 /// What a server has said or done that its state does not show.
 #[derive(Clone, Copy)]
 pub enum Said {
-    /// Nothing.
+    /// It has neither voted, nor answered its leader, nor restarted.
     Nothing,
     /// It has voted for a candidate.
     Voted(Term, u64),
@@ -36,7 +36,7 @@ pub enum Said {
 /// A server after an event.
 #[derive(Drop)]
 pub struct View {
-    /// Its id.
+    /// The id of the server.
     pub server: u64,
     /// The term of its vote.
     pub term: Term,
@@ -48,7 +48,7 @@ pub struct View {
     pub leads: bool,
     /// How many of its first entries are purged.
     pub purged: usize,
-    /// The entries after these.
+    /// The entries of its log that are not purged.
     pub entries: Vec<Entry>,
     /// How many of its first entries it knows to be committed.
     pub committed: usize,

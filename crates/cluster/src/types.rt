@@ -1,9 +1,9 @@
 //! The types of the layer for the servers of the cluster. Node ids and commands are numbers, nodes
 //! have no addresses, and leader ids are those of standard Raft: a term has at most one leader.
 //!
-//! `LeaderId` and `CommittedLeaderId` choose the kind of leader ids, and nothing else depends on it.
-//! If they are `raft_base::LeaderId<u64>` and `raft_base::CommittedLeaderId<u64>`, the cluster runs
-//! over openraft's default leader ids, but `rt check` does not prove it.
+//! `LeaderId` and `CommittedLeaderId` choose the kind of leader ids, and nothing else depends on
+//! the kind. If they are `raft_base::LeaderId<u64>` and `raft_base::CommittedLeaderId<u64>`, the
+//! cluster runs over openraft's default leader ids, but `rt check` does not prove it.
 
 use raft_base::{EmptyNode, LogIdOf, LogIdRangeOf, VoteIn};
 use raft_members::Membership;
