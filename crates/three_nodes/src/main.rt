@@ -4,7 +4,7 @@
 //! and the functions below it are its network, in which a message is a call. Left out are timers,
 //! snapshots, clients, lost messages, and the greatest term that a server has heard of.
 
-use anyhow::{Context, Result, bail};
+use anyhow::{Context, Result, bail, ensure};
 use raft_base::leader_id_std::{CommittedLeaderId, LeaderId};
 use raft_base::{EmptyNode, LogIdOf, LogIdRangeOf, LogStateReader, VoteIn};
 use raft_handlers::{
@@ -29,20 +29,25 @@ struct Server {
 }
 
 impl Server {
-    /// Ends a step, before the server sends or answers: writes to disk the vote, a truncation, and
-    /// those of the entries that are new. A leader counts itself then, and commits what a quorum
-    /// has; it stops if it has promised a higher vote or is removed. What is committed is applied.
+    /// Ends a step, before the server sends or answers: writes the vote and the log to disk, and
+    /// flushes them. A leader then counts what its disk has, and commits what a quorum has; it
+    /// stops if it has promised a higher vote or is removed. What is committed is applied. The sum
+    /// and `committed` are one write, because a crash in between would apply entries twice.
     fn finish(&mut self, sent: &[EntryOf<CommittedLeaderId, u64, EmptyNode, u64>]) -> Result<()> {
         let (state, disk) = (&mut self.state, &mut self.disk);
         disk.vote = *state.vote_ref();
-        disk.entries.retain(|entry| state.get_log_id(entry.log_id.index) == Some(entry.log_id));
+        let mut on_disk = disk.entries.iter().map(|entry| entry.log_id);
+        let kept = on_disk.rfind(|log_id| state.get_log_id(log_id.index) == Some(*log_id));
+        disk.entries.truncate(end(kept));
         let last = state.last_log_id().copied();
         let lacking = end(last).saturating_sub(disk.entries.len());
-        let (_, new) = sent.split_at(sent.len().saturating_sub(lacking));
+        let (_, new) = sent.split_at(sent.len().checked_sub(lacking).context("not on disk")?);
+        let flushed = new.last().or(disk.entries.last()).map(|entry| entry.log_id);
+        ensure!(flushed == last, "the entries do not end the log");
         disk.entries.extend_with_clones(new)?;
         self.leader.take_if(|leader| !leader.leads(state));
         if let Some(leader) = &mut self.leader {
-            leader.handle_flushed(state, last)?;
+            leader.handle_flushed(state, flushed)?;
             leader.commit(state)?;
         }
         self.leader.take_if(|leader| leader.is_removed(state));
@@ -56,7 +61,7 @@ impl Server {
         Ok(())
     }
 
-    /// Starts again from the disk after a crash, as a follower.
+    /// Starts again from the disk as a follower, after a crash or after a step that has failed.
     fn restart(&mut self) -> Result<()> {
         self.state = restart_server(*self.disk.entries.allocator(), &self.disk)?;
         self.leader = None;
@@ -179,15 +184,10 @@ fn replicate(servers: &mut BTreeMap<u64, Server>, id: u64, followers: &[u64]) ->
 fn show(servers: &BTreeMap<u64, Server>, rt: &HostRuntime, event: &str) -> Result<()> {
     println!(rt; "{event}")?;
     for (id, server) in servers {
-        let (vote, applied) = (server.disk.vote, end(server.disk.committed));
-        let entries = server.disk.entries.iter();
-        let log: Vec<u64> = entries
-            .map(|it| it.log_id.leader_id.term)
-            .collect(rt.alloc())?;
-        print!(rt;
-            "  server {id}: {vote}, log {log:?}, {applied} applied, sum {}",
-            server.sum
-        )?;
+        let (vote, applied, sum) = (server.disk.vote, end(server.disk.committed), server.sum);
+        let terms = server.disk.entries.iter().map(|e| e.log_id.leader_id.term);
+        let log: Vec<u64> = terms.collect(rt.alloc())?;
+        print!(rt; "  server {id}: {vote}, log {log:?}, {applied} applied, sum {sum}")?;
         let members = server.state.membership_state.effective().membership();
         println!(rt; ", voters {:?}", members.get_joint_config())?;
     }
