@@ -259,8 +259,8 @@ module _ {T ID D M : Type 0} (k : Tests T ID D M) where
   has_campaigned u d (Campaigned c t ∷ es) = same_leader k t c u d || has_campaigned u d es
   has_campaigned u d (x ∷ es) = has_campaigned u d es
 
-  -- a candidate is elected: it and a quorum of the config in its log have voted for it in the term, each
-  -- in time
+  -- a candidate is elected: it and a quorum of the config in its log have voted for it in the term,
+  -- each in time
   abbrev pub is_elected : List (TraceEvent T ID D) → T → ID → Bool
   is_elected es t c =
       has_voted k t c (events_in k es c)

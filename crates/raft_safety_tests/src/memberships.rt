@@ -9,8 +9,8 @@ use raft_safety::term::Term;
 use raft_testing::facts::first_wrong;
 use std::test::Fail;
 
-/// Two memberships of `three`, each by the content of its entry, and whether their quorums are known
-/// to intersect.
+/// Pairs of memberships of `three`, each named by the content of its entry, and whether quorums of
+/// the two are known to intersect.
 const PAIRS: [(&str, Option<u64>, Option<u64>, bool); 9] = [
     ("a shared config", None, Some(100), true),
     ("no shared config", None, Some(101), false),

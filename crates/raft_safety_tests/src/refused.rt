@@ -52,7 +52,7 @@ fn refuses_each_event_for_its_rule(rt: HostRuntime) -> Result<(), Fail> {
         (campaigned(1, 1), Rule::PassedTerm),
         (granted(1, 1, 0), Rule::PassedTerm),
         (granted(0, 2, 2), Rule::CandidateBehind),
-        // server 4 would vote late, and the leader campaigned with no entry
+        // This vote is late, and the candidate had no entry when it campaigned.
         (granted(4, 1, 0), Rule::CandidateBehind),
         (granted(0, 2, 1), Rule::NoCampaign),
         (kept(alloc, (2, 1, 0), 0), Rule::PassedTerm),
