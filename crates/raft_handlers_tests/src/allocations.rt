@@ -1,9 +1,8 @@
-//! Handlers with each allocation refused in turn, or all of them.
+//! Handlers with each allocation refused in turn.
 
 use crate::candidate::candidate;
-use crate::leader::{LIFE, LeaderOf, Led, Right, SNAPSHOT, Step, snapshotted};
+use crate::leader::{LeaderOf, Led};
 use crate::states::{Entry, Row, StateOf, entries, entry_of_members, follower, id, members, voter};
-use crate::vote::{ROWS, answers};
 use raft_base::{EmptyNode, LeaderAdv, LeaderId, LeaderKind, VoteIn};
 use raft_handlers::{
     AppendEntries, Candidate, ChangeError, HandlerError, InstallSnapshot, Leader, Outcome,
@@ -12,8 +11,7 @@ use raft_handlers::{
 };
 use raft_members::{ChangeMembers, ChangeMembershipErrorOf, StoredMembershipOf};
 use raft_state::SnapshotMetaOf;
-use raft_testing::allocations::{Allocation, is_free_on, is_swept};
-use raft_testing::memory::holds;
+use raft_testing::allocations::{Allocation, is_swept};
 use std::alloc::{AllocError, Global};
 use std::collections::BTreeSet;
 use std::io;
@@ -272,42 +270,5 @@ fn is_leader_swept(rt: &impl Print, alloc: Global) -> io::Result<bool> {
 #[test]
 fn allocations_of_a_leader(rt: HostRuntime) -> Result<(), Fail> {
     assert!(rt; is_leader_swept(&rt, rt.alloc())?);
-    Ok(())
-}
-
-/// Whether a leader makes the steps of a life as it should, without an allocation.
-fn lives_free<K: LeaderKind<u64>>(
-    rt: &impl Print,
-    alloc: Global,
-    name: &str,
-    life: &[(&'static str, Step, Right)],
-    state: Result<StateOf<K>, HandlerError>,
-) -> io::Result<bool> {
-    let led = match state {
-        Ok(state) => in_memory(Led::<K>::new(state)),
-        Err(_) => Err(AllocError),
-    };
-    is_free_on(rt, alloc, name, led, |led| led.fails(life).is_none())
-}
-
-/// Whether a leader sends, takes responses and commits without an allocation, with all of its log
-/// and with a snapshot.
-fn is_leader_free<K: LeaderKind<u64>>(rt: &impl Print, alloc: Global) -> io::Result<bool> {
-    let name = "Leader::{next_request, handle_response, handle_flushed, give_up, commit}";
-    let state = Ok(voter::<K>(alloc)?);
-    let is_right = lives_free::<K>(rt, alloc, name, LIFE, state)?;
-    let state = snapshotted::<K>(alloc);
-    Ok(lives_free::<K>(rt, alloc, name, SNAPSHOT, state)? && is_right)
-}
-
-#[test]
-fn no_allocations(rt: HostRuntime) -> Result<(), Fail> {
-    let alloc = rt.alloc();
-    for row in ROWS {
-        let state = follower::<LeaderAdv>(alloc, None);
-        let vote = |state: &mut State| holds(answers::<LeaderAdv>(state, row));
-        assert!(rt; is_free_on(&rt, alloc, "handle_vote_request", state, vote)?);
-    }
-    assert!(rt; is_leader_free::<LeaderAdv>(&rt, alloc)?);
     Ok(())
 }
