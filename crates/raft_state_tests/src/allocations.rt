@@ -5,11 +5,11 @@ use crate::lives::{append, extend, install, purge};
 use crate::membership_state;
 use crate::support::asserts::assert_row;
 use crate::support::memory::try_equals;
-use crate::support::messages::snapshot;
+use crate::support::messages::{Snapshot, snapshot};
 use crate::support::rows::{log_id, row};
 use crate::support::states::{follower, state};
 use crate::support::words::{edit, leads_to};
-use raft_base::{LogId, LogStateReader, MessageSummary};
+use raft_base::{LeaderId, LogId, LogStateReader, MessageSummary, VoteIn};
 use raft_members::{Membership, StoredMembership};
 use raft_state::{
     Entry, EntryPayload, FromAppData, LogIdList, MembershipState, RaftEntry, RaftState,
@@ -272,6 +272,50 @@ fn are_free(rt: &impl Print, alloc: Global, name: &str, rows: &str) -> io::Resul
     )
 }
 
+/// A state that is committed up to (3,4), and a snapshot up to there.
+type Built = (State, Option<Snapshot<LeaderId<u64>>>);
+
+/// Such a state.
+fn built(alloc: Global) -> Result<Built, AllocError> {
+    let upto = snapshot(alloc, Some((3, 4)), Some((1, 1)));
+    let (state, upto) = both(follower(alloc, "2 1.1 3.4 - - -"), upto)?;
+    Ok((state, Some(upto)))
+}
+
+/// Whether a state schedules a purge up to (3,4).
+fn is_scheduled(state: &mut State) -> bool {
+    let upto = log_id(3, 4);
+    if !state.can_schedule_purge(&upto) {
+        return false;
+    }
+    state.schedule_purge(&upto);
+    true
+}
+
+/// Whether a state takes a snapshot that it has built, schedules a purge up to there, promises a
+/// higher vote and no lower one, and is sound all the while.
+fn is_built(built: &mut Built) -> bool {
+    let (state, upto) = built;
+    let was_sound = state.is_sound();
+    let may_build = match upto.take() {
+        Some(upto) if state.can_build_snapshot(&upto) => {
+            state.build_snapshot(upto);
+            true
+        }
+        _ => false,
+    };
+    let are_right = [
+        was_sound,
+        may_build,
+        is_scheduled(state),
+        state.purge_upto == Some(log_id(3, 4)),
+        state.promise(VoteIn::new(10, 2)),
+        !state.promise(VoteIn::new(9, 2)),
+        state.is_sound(),
+    ];
+    are_right == [true; 7]
+}
+
 /// Whether a log is truncated as it should be, with its effective membership.
 fn is_truncated(state: &mut State) -> bool {
     let is_reverted = state.can_truncate_log(2) && state.truncate_log(2) == Ok(true);
@@ -297,13 +341,16 @@ fn no_allocations(rt: HostRuntime) -> Result<(), Fail> {
     let state = follower(alloc, "2 1.1 1.1 - - 1.3");
     let name = "RaftState::truncate_log";
     let truncated = is_free_on(&rt, alloc, name, state, |state| is_truncated(state));
+    let name = "RaftState::{build_snapshot, schedule_purge, promise, is_sound}";
+    let built = is_free_on(&rt, alloc, name, built(alloc), |built| is_built(built));
     let are_right = [
         are_free(&rt, alloc, reads, READS).unwrap_or(false),
         are_free(&rt, alloc, cuts, CUTS).unwrap_or(false),
         lists.unwrap_or(false),
         entries.unwrap_or(false),
         truncated.unwrap_or(false),
+        built.unwrap_or(false),
     ];
-    assert!(rt; are_right == [true; 5]);
+    assert!(rt; are_right == [true; 6]);
     Ok(())
 }
