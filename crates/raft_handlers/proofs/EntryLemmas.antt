@@ -11,7 +11,6 @@ use Rattle.std.proofs.Common.{
   Bool,
   true,
   false,
-  ◌&&◌,
   ◌||◌,
   List,
   [],
@@ -36,29 +35,18 @@ use Rattle.std.proofs.Common.{
 }
 use Rattle.std.proofs.lemmas.Bool.{and_parts, or_right}
 use Rattle.std.proofs.lemmas.Bool.Decides.{nat_tests}
-use Rattle.std.proofs.lemmas.Option.{slice_get-map}
 use Rattle.std.specs.Prelude.{slice_get}
-use Rattle.std.proofs.lemmas.List.{append-nil, drop_all, map-append, take-append-drop}
+use Rattle.std.proofs.lemmas.List.{drop_all, take-append-drop}
 use Rattle.std.proofs.lemmas.List.Folds.{list_all-append}
 use Rattle.std.specs.List.{list_all, prefix_len}
 use Rattle.std.specs.Option.{option_or}
 use Rattle.std.specs.Cmp.{IsEquivalence}
 use Rattle.std.specs.Cmp.Derive.{both_true}
-use Rattle.std.specs.declared.cmp.Ordering.{Ordering}
-use Rattle.raft_base.specs.LogId.{id_lt, index_of, next_index, same_ids}
+use Rattle.raft_base.specs.LogId.{index_of, next_index, same_ids}
 use Rattle.raft_base.specs.LogIndex.{index_lt}
 use Rattle.raft_base.specs.declared.log_id.LogIdOf.{LogIdOf}
-use Rattle.raft_handlers.specs.Append.{accepted_before, follow_on, has_entry, log_before, memberships_before, replaced_since, KeepsBelow}
-use Rattle.raft_handlers.specs.Entries.{
-  accepted_below,
-  allows_commit,
-  entry_ids,
-  has_with,
-  log_with_new,
-  may_commit_with,
-  memberships_below,
-}
-use Rattle.raft_members.specs.membership.Stored.{log_id_of}
+use Rattle.raft_handlers.specs.Append.{has_entry, replaced_since, KeepsBelow}
+use Rattle.raft_handlers.specs.Entries.{entry_ids, has_with}
 use Rattle.raft_members.specs.quorum.MajorityLawful.{list_all-weaker}
 use Rattle.raft_state.proofs.lemmas.log.ConflictLemmas.{place_passes}
 use Rattle.raft_state.proofs.lemmas.log_id_list.EndsLemmas.{last_of_map, last_of_some}
@@ -69,7 +57,6 @@ use Rattle.raft_state.proofs.lemmas.log_id_list.OrderLemmas.{From}
 use Rattle.raft_state.proofs.lemmas.log_id_list.SameLogLemmas.{equal_found}
 use Rattle.raft_state.proofs.lemmas.sound.LoggedIds.{in_log, is_kept}
 use Rattle.raft_state.specs.raft_state.Appended.{are_consecutive}
-use Rattle.raft_state.specs.raft_state.Commit.{state_may_commit}
 use Rattle.raft_state.specs.log_id_list.FullLog.{end_index, full_log, same_log}
 use Rattle.raft_state.specs.log_id_list.LogEdits.{front}
 use Rattle.raft_state.specs.log_id_list.LogKept.{HasIds, KeepsIds}
@@ -106,24 +93,6 @@ has_after eq eqs old new ids first (Some id) kept own h = by (nat_le first.index
     by false le h =
         let lt : id.index < first.index = grind (arith, nat_tests) in
         same_through eq eqs (id_at new id.index) (id_at old id.index) id (kept id.index lt) h
-
--- a log id that may be committed with these entries may be committed once they are appended
-pub commit_allowed : {K N I L C D : Type 0} (cmp : C → C → Ordering) (eq : C → C → Bool) (log : List (LogIdOf C))
-    (es : List (EntryOf C K N D)) (effective id : Option (LogIdOf C)) (s : RaftStateIn K N I L C)
-    → log_id_of s.membership_state.effective ≡ effective → may_commit_with eq cmp log effective es s.committed id ≡ true
-    → state_may_commit cmp id s ≡ true
-commit_allowed cmp eq log es effective id s is h = by (id_lt cmp s.committed id) h
-  where
-    by : (t : Bool) → (if t then has_with eq log (entry_ids es) id && allows_commit cmp effective id else true) ≡ true
-        → (if t then allows_commit cmp (log_id_of s.membership_state.effective) id else true) ≡ true
-    by true h = rw is ((and_parts _ _ h).1)
-    by false h = refl
-
--- and if it is past what is committed, the log has it with them
-pub commit_logged : {K N D C : Type 0} (cmp : C → C → Ordering) (eq : C → C → Bool) (log : List (LogIdOf C))
-    (es : List (EntryOf C K N D)) (effective before id : Option (LogIdOf C))
-    → may_commit_with eq cmp log effective es before id ≡ true → id_lt cmp before id ≡ true → has_with eq log (entry_ids es) id ≡ true
-commit_logged cmp eq log es effective before id h lt = (and_parts _ _ (rw lt at h)).0
 
 -- consecutive log ids in two parts
 pub consecutive_to : {C K N D : Type 0} (last : Option (LogIdOf C)) (es : List (EntryOf C K N D)) (x : LogIdOf C)
@@ -183,11 +152,6 @@ pub no_first : {A : Type 0} (xs : List A) → None ≡ slice_get xs 0 → xs ≡
 no_first [] h = refl
 no_first (x ∷ xs) h = cc
 
-pub replaced_first : {C K N D : Type 0} (log : List (LogIdOf C)) (es : List (EntryOf C K N D)) (first : EntryOf C K N D)
-    → slice_get es 0 ≡ Some first → replaced_since log es ≡ first.log_id.index
-replaced_first log [] first h = cc
-replaced_first log (e ∷ es) first h = let is : e ≡ first = cc in rw is refl
-
 pub first_next : {C K N D : Type 0} (last : Option (LogIdOf C)) (es : List (EntryOf C K N D)) (first : EntryOf C K N D)
     → slice_get es 0 ≡ Some first → are_consecutive last (entry_ids es) ≡ true → first.log_id.index ≡ next_index last
 first_next last [] first h row = cc
@@ -200,54 +164,6 @@ pub ends_alike : {C K N D : Type 0} (es : List (EntryOf C K N D)) (first : Entry
     → slice_get es 0 ≡ Some first → option_or (last_id (entry_ids es)) a ≡ option_or (last_id (entry_ids es)) b
 ends_alike [] first a b h = cc
 ends_alike (e ∷ es) first a b h = rw (last_of_some e.log_id (entry_ids es)) refl
-
-pub memberships_first : {K N I L C D : Type 0} (s : RaftStateIn K N I L C) (es : List (EntryOf C K N D)) (first : EntryOf C K N D)
-    → slice_get es 0 ≡ Some first → memberships_before es s ≡ memberships_below first.log_id.index s
-memberships_first s [] first h = cc
-memberships_first s (e ∷ es) first h = let is : e ≡ first = cc in rw is refl
-
--- what is accepted before new entries
-pub accepted_first : {K N I L C D : Type 0} (cmp : C → C → Ordering) (s : RaftStateIn K N I L C) (es : List (EntryOf C K N D))
-    (first : EntryOf C K N D) → slice_get es 0 ≡ Some first → accepted_before cmp es s ≡ accepted_below cmp first.log_id.index s
-accepted_first cmp s [] first h = cc
-accepted_first cmp s (e ∷ es) first h = let is : e ≡ first = cc in rw is refl
-
--- the log before new entries, and with them
-pub log_first : {K N I L C D : Type 0} (s : RaftStateIn K N I L C) (es : List (EntryOf C K N D)) (first : EntryOf C K N D)
-    → slice_get es 0 ≡ Some first → log_before es s ≡ front (full_log s.log_ids) first.log_id.index
-log_first s [] first h = cc
-log_first s (e ∷ es) first h = let is : e ≡ first = cc in rw is refl
-
-pub with_new_first : {C K N D : Type 0} (log : List (LogIdOf C)) (es : List (EntryOf C K N D)) (first : EntryOf C K N D)
-    → slice_get es 0 ≡ Some first → log_with_new log es ≡ front log first.log_id.index ++ entry_ids es
-with_new_first log [] first h = cc
-with_new_first log (e ∷ es) first h = let is : e ≡ first = cc in rw is refl
-
--- what a look-up among new log ids says
-pub has_with_some : {C K N D : Type 0} (eq : C → C → Bool) (log : List (LogIdOf C)) (es : List (EntryOf C K N D))
-    (first e : EntryOf C K N D) (id : LogIdOf C) → slice_get es 0 ≡ Some first → first.log_id.index ≤ id.index
-    → slice_get es (id.index - first.log_id.index) ≡ Some e
-    → same_ids eq (Some e.log_id) (Some id) ≡ has_with eq log (entry_ids es) (Some id)
-has_with_some eq log [] first e id h le here = cc
-has_with_some {C} {K} {N} {D} eq log (x ∷ xs) first e id h le here =
-    let is : x ≡ first = cc in
-    let low : x.log_id.index ≤ id.index = rw is le in
-    let t : nat_le x.log_id.index id.index ≡ true = grind (arith, nat_tests) in
-    let there = rw (← is) at here in
-    let found = slice_get-map (λ (y : EntryOf C K N D). y.log_id) (x ∷ xs) (id.index - x.log_id.index) in
-    rw (t, found, there) refl
-
-pub has_with_none : {C K N D : Type 0} (eq : C → C → Bool) (log : List (LogIdOf C)) (es : List (EntryOf C K N D))
-    (first : EntryOf C K N D) (id : LogIdOf C) → slice_get es 0 ≡ Some first → first.log_id.index ≤ id.index
-    → slice_get es (id.index - first.log_id.index) ≡ None → false ≡ has_with eq log (entry_ids es) (Some id)
-has_with_none eq log [] first id h le here = cc
-has_with_none {C} {K} {N} {D} eq log (x ∷ xs) first id h le here =
-    let is : x ≡ first = cc in
-    let low : x.log_id.index ≤ id.index = rw is le in
-    let t : nat_le x.log_id.index id.index ≡ true = grind (arith, nat_tests) in
-    let there = rw (← is) at here in
-    let found = slice_get-map (λ (y : EntryOf C K N D). y.log_id) (x ∷ xs) (id.index - x.log_id.index) in
-    rw (t, found, there) refl
 
 pub has_with_alone : {C : Type 0} (eq : C → C → Bool) (log : List (LogIdOf C)) (o : Option (LogIdOf C))
     → has_with eq log [] o ≡ true → in_log eq log o ≡ true
@@ -273,19 +189,6 @@ kept_through eq old new since last es first is row h at kept i lt =
     let end : next_index last ≡ end_index (front old since) = ap next_index is in
     rw (front_reads old since i lt) at (kept i (omega arith))
 
--- entries that have consecutive log ids after the first one
-pub follow_of : {C K N D : Type 0} (last : Option (LogIdOf C)) (es : List (EntryOf C K N D))
-    → are_consecutive last (entry_ids es) ≡ true → follow_on es ≡ true
-follow_of last [] h = refl
-follow_of last (e ∷ es) h = (and_parts _ _ h).1
-
-consecutive_join : {C K N D : Type 0} (last : Option (LogIdOf C)) (es : List (EntryOf C K N D)) (x : EntryOf C K N D)
-    (xs : List (EntryOf C K N D)) → are_consecutive last (entry_ids es ++ x.log_id ∷ []) ≡ true → follow_on (x ∷ xs) ≡ true
-    → are_consecutive last (entry_ids (es ++ x ∷ xs)) ≡ true
-consecutive_join last [] x xs h follow = both_true ((and_parts _ _ h).0) follow
-consecutive_join last (e ∷ es) x xs h follow =
-    let b = and_parts _ _ h in both_true b.0 (consecutive_join (Some e.log_id) es x xs b.1 follow)
-
 ids_end : {C K N D : Type 0} (es : List (EntryOf C K N D)) (x : EntryOf C K N D)
     → entry_ids (es ++ x ∷ []) ≡ entry_ids es ++ x.log_id ∷ []
 ids_end [] x = refl
@@ -307,12 +210,6 @@ pub has_alike : {K N I L C : Type 0} (eq : C → C → Bool) (old new : RaftStat
     → new.purged_next ≡ old.purged_next → new.log_ids ≡ old.log_ids → purged_or_logged eq old id ≡ true
     → purged_or_logged eq new id ≡ true
 has_alike eq old new id purged logs has = rw (is_kept eq new id, purged, logs) (sym (is_kept eq old id) ∙ has)
-
-drop_one_more : {A : Type 0} (n : ℕ) (xs : List A) → drop n xs ≡ [] → drop (suc n) xs ≡ []
-drop_one_more zero [] h = refl
-drop_one_more zero (y ∷ ys) h = cc
-drop_one_more (suc n) [] h = refl
-drop_one_more (suc n) (y ∷ ys) h = drop_one_more n ys h
 
 -- the rest of a list from a place on
 pub slice_rest : {A : Type 0} (n : ℕ) (xs : List A) → take (length xs - n) (drop n xs) ≡ drop n xs
@@ -363,36 +260,6 @@ module _ {K N I L C D : Type 0} (eq : C → C → Bool) (eqs : IsEquivalence eq)
           let parts = list_all-append (has_entry eq new) (take n es) (x ∷ xs) in
           let whole : take n es ++ x ∷ xs ≡ es = rw is at (take-append-drop n es) in
           rw (← whole, parts) (both_true first (own_present eq new (x ∷ xs) own))
-
-  pub entries_consecutive : are_consecutive prev (entry_ids (take (n + 1) es)) ≡ true → follow_on (drop n es) ≡ true
-      → are_consecutive prev (entry_ids es) ≡ true
-  entries_consecutive row follow = by (drop n es) refl follow
-    where
-      by : (fresh : List (EntryOf C K N D)) → drop n es ≡ fresh → follow_on fresh ≡ true → are_consecutive prev (entry_ids es) ≡ true
-      by [] is follow =
-          let whole : take (n + 1) es ≡ es = rw add-one (take_whole (suc n) es (drop_one_more n es is)) in
-          rw whole at row
-      by (x ∷ xs) is follow =
-          let whole : take n es ++ x ∷ xs ≡ es = rw is at (take-append-drop n es) in
-          rw whole at (consecutive_join prev (take n es) x xs (row_to x xs row is) follow)
-
--- a walk along entries, which is at a place and has consecutive log ids up to there
-module _ {C K N D : Type 0} (prev last : Option (LogIdOf C)) (es : List (EntryOf C K N D)) (i : ℕ)
-    (split : (ys : List (LogIdOf C)) → are_consecutive prev (entry_ids (take i es) ++ ys) ≡ are_consecutive last ys) where
-  pub gap_here : (e : EntryOf C K N D) (rest : List (EntryOf C K N D)) → drop i es ≡ e ∷ rest
-      → nat_eq e.log_id.index (next_index last) ≡ false → are_consecutive prev (entry_ids es) ≡ false
-  gap_here e rest is gap =
-      let whole : take i es ++ e ∷ rest ≡ es = rw is at (take-append-drop i es) in
-      let ids = map-append (λ (x : EntryOf C K N D). x.log_id) (take i es) (e ∷ rest) in
-      let here : are_consecutive last (entry_ids (e ∷ rest)) ≡ false = rw gap refl in
-      ap (λ xs. are_consecutive prev (entry_ids xs)) (sym whole) ∙ ap (are_consecutive prev) ids ∙ split (entry_ids (e ∷ rest)) ∙ here
-
-  pub ends_here : length es ≤ i → are_consecutive prev (entry_ids (take (length es + 1) es)) ≡ true
-  ends_here end =
-      let all = take_whole i es (drop_all i es end) in
-      let more : take (length es + 1) es ≡ es = take_whole (length es + 1) es (drop_all (length es + 1) es (omega arith)) in
-      let none = append-nil (entry_ids es) in
-      rw (more, ← none) (rw all at (split []))
 
 -- the log id of the last entry
 pub last_of_entries : {C K N D : Type 0} (prev : Option (LogIdOf C)) (es : List (EntryOf C K N D)) (e : EntryOf C K N D)

@@ -1,5 +1,6 @@
 pub mod AppendLemmas
 pub mod ChangeLemmas
+pub mod CutLemmas
 pub mod FollowerLemmas
 pub mod HonestLemmas
 pub mod KnownLemmas
@@ -9,6 +10,7 @@ pub mod RunLemmas
 pub mod SendLemmas
 pub mod SnapshotLemmas
 pub mod StartLemmas
+pub mod TakeLemmas
 pub mod TermLemmas
 pub mod TrackedLemmas
 pub mod VoteLemmas

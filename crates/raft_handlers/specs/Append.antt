@@ -27,28 +27,40 @@ use Rattle.raft_base.specs.declared.vote.VoteIn.{VoteIn}
 use Rattle.raft_handlers.specs.Entries.{
   accepted_below,
   are_in_order,
+  effective_before,
+  effective_with,
   entry_ids,
+  has_committed_with,
+  has_id,
+  has_members_in_order,
+  has_memberships_in_order,
   keeps_committed,
   last_before,
   log_with_new,
   may_cut,
-  has_committed_with,
-  has_members_in_order,
+  may_replace,
   may_take_new,
   memberships_below,
+  tests_hold,
   RefusedUnless,
+  TakeTests,
 }
 use Rattle.raft_handlers.specs.declared.error.HandlerError.{HandlerError}
+use Rattle.raft_handlers.specs.declared.message.AppendEntries.{AppendEntries}
 use Rattle.raft_handlers.specs.declared.message.Outcome.{Outcome}
 use Rattle.raft_handlers.specs.declared.message.Outcome.TheVariants.{Matches, Conflict, HigherVote}
-use Rattle.raft_state.specs.raft_state.Appended.{are_consecutive, AppendsMemberships}
+use Rattle.raft_members.specs.membership.Stored.{log_id_of}
+use Rattle.raft_progress.specs.progress.Comparisons.{OrdMembers}
+use Rattle.raft_state.specs.raft_state.Appended.{AppendsMemberships}
 use Rattle.raft_state.specs.entry.Entry.{payload_membership}
 use Rattle.raft_state.specs.log_id_list.FullLog.{end_index, full_log, same_log}
 use Rattle.raft_state.specs.log_id_list.LogEdits.{front}
+use Rattle.raft_state.specs.log_id_list.LogKept.{HasIds}
 use Rattle.raft_state.specs.log_id_list.LogReads.{id_at, last_id}
 use Rattle.raft_state.specs.membership_state.MembershipMoves.{after_commit}
 use Rattle.raft_state.specs.membership_state.Memberships.{Memberships}
 use Rattle.raft_state.specs.raft_state.Sound.{purged_or_logged}
+use Rattle.raft_state.specs.raft_state.VoteAndLog.{vote_of}
 use Rattle.raft_state.specs.declared.accepted.AcceptedIn.{AcceptedIn}
 use Rattle.raft_state.specs.declared.entry.EntryOf.{EntryOf}
 use Rattle.raft_state.specs.declared.raft_state.RaftStateIn.{RaftStateIn}
@@ -70,10 +82,6 @@ abbrev pub IfHigherVote : {L C : Type 0} → Outcome L C → (VoteIn L → Type 
 IfHigherVote (Matches upto) p = Unit {0}
 IfHigherVote (Conflict at) p = Unit {0}
 IfHigherVote (HigherVote vote) p = p vote
-
--- the vote that an elected leader's requests stand for
-abbrev pub elected : {L : Type 0} → L → VoteIn L
-elected leader = record { leader_id = leader; committed = true }
 
 -- the log id of the last of these entries, or `prev` where there is none
 abbrev pub last_of : {C K N D : Type 0} → Option (LogIdOf C) → List (EntryOf C K N D)
@@ -99,11 +107,6 @@ new_of eq s es = drop (prefix_len (has_entry eq s) es) es
 abbrev pub replaced_since : {C K N D : Type 0} → List (LogIdOf C) → List (EntryOf C K N D) → ℕ
 replaced_since log [] = end_index log
 replaced_since log (e ∷ es) = e.log_id.index
-
--- entries have consecutive indexes after the first one
-abbrev pub follow_on : {C K N D : Type 0} → List (EntryOf C K N D) → Bool
-follow_on [] = true
-follow_on (e ∷ es) = are_consecutive (Some e.log_id) (entry_ids es)
 
 -- below an index a log has what it had before
 abbrev pub KeepsBelow : {C : Type 0} → (C → C → Bool) → ℕ → List (LogIdOf C) → List (LogIdOf C)
@@ -149,22 +152,80 @@ TakesMemberships {K} {N} {I} {L} {C} cmp eq same new upto s m =
     (λ e. payload_membership e.payload) new (memberships_before new s) appended
     × (m ≡ (if id_lt cmp s.committed upto then after_commit cmp upto appended else appended))
 
--- what a failed allocation leaves of the log, the memberships and what is accepted, in a state that
--- takes these new entries: all is as it was; or all is cut off at the first new entry; or log and
--- memberships have the new entries too
-abbrev pub IsLeftBy : {K N I L C D : Type 0} → (C → C → Bool) → (C → C → Ordering)
-    → (K → K → Bool) → (N → N → Bool) → List (EntryOf C K N D) → (old new : RaftStateIn K N I L C)
-    → Type 0
-IsLeftBy eq cmp id_eq same es old new =
-    ((new.log_ids ≡ old.log_ids) × (new.membership_state ≡ old.membership_state)
-    × (new.accepted ≡ old.accepted))
-    ⊎ ((full_log new.log_ids ≡ log_before es old)
-    × (new.membership_state ≡ memberships_before es old)
-    × (new.accepted ≡ accepted_before cmp es old))
-    ⊎ (IsTrue (same_log eq (full_log new.log_ids) (log_with_new (full_log old.log_ids) es))
-    × (new.accepted ≡ accepted_before cmp es old)
-    × AppendsMemberships id_eq same (λ e. e.log_id) (λ e. payload_membership e.payload) es
-    (memberships_before es old) new.membership_state)
+-- a log was truncated at an index, unless it ended before it, and with it what was accepted and the
+-- memberships; nothing that is committed was lost
+pub record IsCut {K N I L C : Type 0} (ord : OrdMembers C) (since : ℕ) (old new : RaftStateIn K N I L C)
+    : Type 0 where
+  pub keeps : IsTrue (may_cut ord.cmp since old)
+  pub log : full_log new.log_ids ≡ front (full_log old.log_ids) since
+  pub memberships : new.membership_state ≡ memberships_below since old
+  pub accepted : new.accepted ≡ accepted_below ord.cmp since old
+  pub rest : new ≡ record old {
+    log_ids = new.log_ids;
+    membership_state = new.membership_state;
+    accepted = new.accepted;
+  }
+
+-- these entries took the place of the log from the index of the first one on, and their memberships
+-- are effective:
+-- - the tests that they passed, and the log afterwards;
+-- - below the first entry the log is as it was, and it has each entry;
+-- - what that makes of the memberships and of what is accepted; nothing else changed.
+pub record Replaces {K N I L C D : Type 0} (ord : OrdMembers C) (id_eq : K → K → Bool)
+    (same : N → N → Bool) (es : List (EntryOf C K N D)) (old new : RaftStateIn K N I L C) : Type 0 where
+  pub keeps : IsTrue (keeps_committed ord.cmp es old)
+  pub order : IsTrue (are_in_order ord.cmp (last_before es old) es)
+  pub members : IsTrue (has_memberships_in_order ord.cmp (effective_before es old) es)
+  pub log : IsTrue (same_log ord.eq (full_log new.log_ids) (log_with_new (full_log old.log_ids) es))
+  pub kept : KeepsBelow ord.eq (replaced_since (full_log old.log_ids) es) (full_log old.log_ids)
+      (full_log new.log_ids)
+  pub nothing_new : es ≡ [] → new.log_ids ≡ old.log_ids
+  pub own : HasIds ord.eq (entry_ids es) (full_log new.log_ids)
+  pub ends : last_id (full_log new.log_ids)
+      ≡ option_or (last_id (entry_ids es)) (last_id (full_log old.log_ids))
+  pub memberships : AppendsMemberships id_eq same (λ e. e.log_id) (λ e. payload_membership e.payload) es
+      (memberships_before es old) new.membership_state
+  pub effective : log_id_of new.membership_state.effective ≡ effective_with (effective_before es old) es
+  pub accepted : new.accepted ≡ accepted_before ord.cmp es old
+  pub rest : new ≡ record old {
+    log_ids = new.log_ids;
+    membership_state = new.membership_state;
+    accepted = new.accepted;
+  }
+
+-- the log, the memberships and what is accepted are as they were
+pub record IsLogKept {K N I L C : Type 0} (old new : RaftStateIn K N I L C) : Type 0 where
+  pub log : new.log_ids ≡ old.log_ids
+  pub memberships : new.membership_state ≡ old.membership_state
+  pub accepted : new.accepted ≡ old.accepted
+
+-- or they are cut off at the first of these entries
+pub record IsCutBefore {K N I L C D : Type 0} (cmp : C → C → Ordering) (es : List (EntryOf C K N D))
+    (old new : RaftStateIn K N I L C) : Type 0 where
+  pub log : full_log new.log_ids ≡ log_before es old
+  pub memberships : new.membership_state ≡ memberships_before es old
+  pub accepted : new.accepted ≡ accepted_before cmp es old
+
+-- or the log has the entries
+pub record HasReplaced {K N I L C D : Type 0} (ord : OrdMembers C) (id_eq : K → K → Bool)
+    (same : N → N → Bool) (es : List (EntryOf C K N D)) (old new : RaftStateIn K N I L C) : Type 0 where
+  pub log : IsTrue (same_log ord.eq (full_log new.log_ids) (log_with_new (full_log old.log_ids) es))
+  pub memberships : AppendsMemberships id_eq same (λ e. e.log_id) (λ e. payload_membership e.payload) es
+      (memberships_before es old) new.membership_state
+  pub accepted : new.accepted ≡ accepted_before ord.cmp es old
+
+-- entries were refused, or an allocation failed, before they were in the log: all is as it was, or cut
+-- off at the first one
+pub record Stops {K N I L C D : Type 0} (ord : OrdMembers C) (es : List (EntryOf C K N D))
+    (old new : RaftStateIn K N I L C) : Type 0 where
+  pub left : IsLogKept old new ⊎ (IsTrue (keeps_committed ord.cmp es old) × IsCutBefore ord.cmp es old new)
+  pub kept : KeepsBelow ord.eq (replaced_since (full_log old.log_ids) es) (full_log old.log_ids)
+      (full_log new.log_ids)
+  pub rest : new ≡ record old {
+    log_ids = new.log_ids;
+    membership_state = new.membership_state;
+    accepted = new.accepted;
+  }
 
 -- a log id has this index, and the log does not have it, nor is its index purged
 abbrev pub IsConflict : {K N I L C : Type 0} → (C → C → Bool) → ℕ → Option (LogIdOf C)
@@ -178,40 +239,120 @@ may_cut_at cmp None s = true
 may_cut_at cmp (Some id) s = may_cut cmp id.index s
 
 -- a request to append entries may be taken: if the log does not have `prev`, it may be truncated
--- there; otherwise the entries are consecutive after `prev`, the new ones may take the place of the
--- end of the log, and the lesser one of the leader's committed log id and the last one may be
--- committed
+-- there; otherwise the entries are in order after `prev`, the new ones may take the place of the end
+-- of the log, and the lesser one of the leader's committed log id and the last one may be committed
 abbrev pub may_take : {K N I L C D : Type 0} → (C → C → Bool) → (C → C → Ordering)
     → Option (LogIdOf C) → List (EntryOf C K N D) → Option (LogIdOf C) → RaftStateIn K N I L C → Bool
 may_take eq cmp prev es committed s =
     if purged_or_logged eq s prev
-    then are_consecutive prev (entry_ids es)
+    then are_in_order cmp prev es
     && may_take_new eq cmp (new_of eq s es) (least cmp committed (last_of prev es)) s
     else may_cut_at cmp prev s
 
--- why entries after a log id that the log has, or the commit of a log id with them, are refused
-abbrev pub IsTakeRefusal : {K N I L C D : Type 0} → (C → C → Bool) → (C → C → Ordering)
+-- the tests of entries after a log id that the log has, and of a log id that is to be committed with
+-- them
+abbrev pub take_tests : {K N I L C D : Type 0} → (C → C → Bool) → (C → C → Ordering)
     → Option (LogIdOf C) → List (EntryOf C K N D) → Option (LogIdOf C) → RaftStateIn K N I L C
-    → HandlerError → Type 0
-IsTakeRefusal eq cmp prev es id s refusal =
-    RefusedUnless true (keeps_committed cmp (new_of eq s es) s)
-    (are_consecutive prev (entry_ids es)
-    && are_in_order cmp (last_before (new_of eq s es) s) (new_of eq s es))
-    (has_members_in_order cmp (new_of eq s es) id s)
-    (has_committed_with eq cmp (full_log s.log_ids) s.committed (new_of eq s es) id) refusal
+    → TakeTests
+take_tests eq cmp prev es id s = record tests_hold {
+  keeps = keeps_committed cmp (new_of eq s es) s;
+  order = are_in_order cmp prev es && are_in_order cmp (last_before (new_of eq s es) s) (new_of eq s es);
+  members = has_members_in_order cmp (new_of eq s es) id s;
+  has = has_committed_with eq cmp (full_log s.log_ids) s.committed (new_of eq s es) id;
+}
 
--- and if the log has that log id or not
-abbrev pub IsAppendRefusalBy : {K N I L C D : Type 0} → Bool → (C → C → Bool) → (C → C → Ordering)
+-- the tests of a request to append entries: of its entries, or that the log may be truncated at `prev`
+abbrev pub append_tests : {K N I L C D : Type 0} → Bool → (C → C → Bool) → (C → C → Ordering)
     → Option (LogIdOf C) → List (EntryOf C K N D) → Option (LogIdOf C) → RaftStateIn K N I L C
-    → HandlerError → Type 0
-IsAppendRefusalBy true eq cmp prev es id s refusal = IsTakeRefusal eq cmp prev es id s refusal
-IsAppendRefusalBy false eq cmp prev es id s refusal =
-    RefusedUnless true (may_cut_at cmp prev s) true true true refusal
+    → TakeTests
+append_tests true eq cmp prev es id s = take_tests eq cmp prev es id s
+append_tests false eq cmp prev es id s = record tests_hold { keeps = may_cut_at cmp prev s }
 
--- why a request to append entries is refused
-abbrev pub IsAppendRefusal : {K N I L C D : Type 0} → (C → C → Bool) → (C → C → Ordering)
-    → Option (LogIdOf C) → List (EntryOf C K N D) → Option (LogIdOf C) → RaftStateIn K N I L C
-    → HandlerError → Type 0
-IsAppendRefusal eq cmp prev es committed s refusal =
-    IsAppendRefusalBy (purged_or_logged eq s prev) eq cmp prev es
-    (least cmp committed (last_of prev es)) s refusal
+-- the log has a log id `prev` and each of these entries:
+-- - the entries are in order after `prev`, what is new of them could replace the end of the log, and
+--   the memberships allowed the commit;
+-- - below the first new entry the log is as it was, and it ends with the last one;
+-- - the memberships are those of the log, and a log id is committed, if it is past what was.
+pub record Took {K N I L C D : Type 0} (ord : OrdMembers C) (id_eq : K → K → Bool)
+    (same : N → N → Bool) (prev : Option (LogIdOf C)) (es : List (EntryOf C K N D))
+    (id : Option (LogIdOf C)) (old new : RaftStateIn K N I L C) : Type 0 where
+  pub has_prev : IsTrue (purged_or_logged ord.eq new prev)
+  pub has_entries : IsTrue (has_all ord.eq new es)
+  pub in_order : IsTrue (are_in_order ord.cmp prev es)
+  pub may : IsTrue (may_replace ord.cmp (new_of ord.eq old es) old)
+  pub allowed : IsTrue (has_members_in_order ord.cmp (new_of ord.eq old es) id old)
+  pub log : IsTrue (same_log ord.eq (full_log new.log_ids)
+      (log_with_new (full_log old.log_ids) (new_of ord.eq old es)))
+  pub kept : KeepsBelow ord.eq (replaced_since (full_log old.log_ids) (new_of ord.eq old es))
+      (full_log old.log_ids) (full_log new.log_ids)
+  pub nothing_new : new_of ord.eq old es ≡ [] → new.log_ids ≡ old.log_ids
+  pub ends : last_id (full_log new.log_ids)
+      ≡ option_or (last_id (entry_ids (new_of ord.eq old es))) (last_id (full_log old.log_ids))
+  pub memberships : TakesMemberships ord.cmp id_eq same (new_of ord.eq old es) id old
+      new.membership_state
+  pub accepted : new.accepted ≡ accepted_before ord.cmp (new_of ord.eq old es) old
+  pub committed : new.committed ≡ greatest ord.cmp old.committed id
+  pub has_committed : IsTrue (id_lt ord.cmp old.committed id)
+      → IsTrue (has_id ord.eq (full_log new.log_ids) id)
+
+-- the log did not have `prev`, and was truncated at its index
+pub record CutAt {K N I L C : Type 0} (ord : OrdMembers C) (at : ℕ) (prev : Option (LogIdOf C))
+    (old new : RaftStateIn K N I L C) : Type 0 where
+  pub conflict : IsConflict ord.eq at prev old
+  pub may : IsTrue (may_cut ord.cmp at old)
+  pub truncated : full_log new.log_ids ≡ front (full_log old.log_ids) at
+  pub memberships : new.membership_state ≡ memberships_below at old
+  pub accepted : new.accepted ≡ accepted_below ord.cmp at old
+  pub committed : new.committed ≡ old.committed
+
+-- what a follower has made of a request to append entries, by its answer
+abbrev pub Answers : {K N I L C D : Type 0} → OrdMembers C → (K → K → Bool) → (N → N → Bool)
+    → AppendEntries L C K N D → Outcome L C → (old new : RaftStateIn K N I L C) → Type 0
+Answers ord id_eq same request (Matches upto) old new =
+    (upto ≡ last_of request.prev request.entries.items)
+    × Took ord id_eq same request.prev request.entries.items
+    (least ord.cmp request.committed (last_of request.prev request.entries.items)) old new
+Answers ord id_eq same request (Conflict at) old new = CutAt ord at request.prev old new
+Answers ord id_eq same request (HigherVote vote) old new = (vote ≡ vote_of old) × (new ≡ old)
+
+-- the log had `prev`, the entries are in order, and what is new of them truncates nothing committed
+pub record HadPrev {K N I L C D : Type 0} (ord : OrdMembers C) (prev : Option (LogIdOf C))
+    (es : List (EntryOf C K N D)) (old : RaftStateIn K N I L C) : Type 0 where
+  pub has_prev : IsTrue (purged_or_logged ord.eq old prev)
+  pub in_order : IsTrue (are_in_order ord.cmp prev es)
+  pub keeps : IsTrue (keeps_committed ord.cmp (new_of ord.eq old es) old)
+
+-- what an error leaves of the log, the memberships and what is accepted: all is as it was; or the log
+-- had `prev`, and all is cut off at the first new entry, or the new entries are there too
+abbrev pub IsLeftBy : {K N I L C D : Type 0} → OrdMembers C → (K → K → Bool) → (N → N → Bool)
+    → Option (LogIdOf C) → List (EntryOf C K N D) → (old new : RaftStateIn K N I L C) → Type 0
+IsLeftBy ord id_eq same prev es old new =
+    IsLogKept old new
+    ⊎ (HadPrev ord prev es old
+    × (IsCutBefore ord.cmp (new_of ord.eq old es) old new
+    ⊎ HasReplaced ord id_eq same (new_of ord.eq old es) old new))
+
+-- entries were refused by one of these tests, or an allocation failed. Below the first new entry the
+-- log is as it was, and what is committed is as it was. The vote may have changed
+pub record Refused {K N I L C D : Type 0} (ord : OrdMembers C) (id_eq : K → K → Bool)
+    (same : N → N → Bool) (tests : TakeTests) (prev : Option (LogIdOf C)) (es : List (EntryOf C K N D))
+    (refusal : HandlerError) (old new : RaftStateIn K N I L C) : Type 0 where
+  pub reason : RefusedUnless tests refusal
+  pub kept : KeepsBelow ord.eq (replaced_since (full_log old.log_ids) (new_of ord.eq old es))
+      (full_log old.log_ids) (full_log new.log_ids)
+  pub left : IsLeftBy ord id_eq same prev es old new
+  pub rest : new ≡ record old {
+    vote = new.vote;
+    log_ids = new.log_ids;
+    membership_state = new.membership_state;
+    accepted = new.accepted;
+  }
+
+-- a request to append entries was refused, or an allocation failed
+abbrev pub Refuses : {K N I L C D : Type 0} → OrdMembers C → (K → K → Bool) → (N → N → Bool)
+    → AppendEntries L C K N D → HandlerError → (old new : RaftStateIn K N I L C) → Type 0
+Refuses ord id_eq same request refusal old new =
+    Refused ord id_eq same
+    (append_tests (purged_or_logged ord.eq old request.prev) ord.eq ord.cmp request.prev
+    request.entries.items (least ord.cmp request.committed
+    (last_of request.prev request.entries.items)) old) request.prev request.entries.items refusal old new

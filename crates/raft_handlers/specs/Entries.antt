@@ -41,6 +41,7 @@ use Rattle.raft_handlers.specs.declared.error.HandlerError.TheVariants.{
 use Rattle.raft_members.specs.membership.Stored.{log_id_of}
 use Rattle.raft_state.specs.Accepted.{accepted_upto}
 use Rattle.raft_state.specs.raft_state.Appended.{are_consecutive, last_stored, memberships_follow}
+use Rattle.raft_state.specs.raft_state.Commit.{state_may_commit}
 use Rattle.raft_state.specs.entry.Entry.{payload_membership}
 use Rattle.raft_state.specs.log_id_list.FullLog.{full_log}
 use Rattle.raft_state.specs.log_id_list.LogConditions.{all_follow}
@@ -159,17 +160,30 @@ allows_commit_past cmp effective before id =
 abbrev pub IsFullLogRefusal : ℕ → HandlerError → Type 0
 IsFullLogRefusal end e = ((e ≡ NoNextIndex) × (nat_lt end (2 ^ 64) ≡ false)) ⊎ (e ≡ OutOfMemory)
 
--- an error comes only if its condition does not hold: a snapshot fits, nothing that is committed is
--- truncated, entries are in order, their memberships are, and the log has what is to be committed;
--- an allocation may fail at any time, and no other error comes
-abbrev pub RefusedUnless : Bool → Bool → Bool → Bool → Bool → HandlerError → Type 0
-RefusedUnless fits keeps order members has SnapshotDoesNotFit = fits ≡ false
-RefusedUnless fits keeps order members has TruncatesCommitted = keeps ≡ false
-RefusedUnless fits keeps order members has NotInOrder = order ≡ false
-RefusedUnless fits keeps order members has MembershipNotInOrder = members ≡ false
-RefusedUnless fits keeps order members has CommittedNotLogged = has ≡ false
-RefusedUnless fits keeps order members has OutOfMemory = Unit {0}
-RefusedUnless fits keeps order members has refusal = ⊥
+-- what a server tests before it takes a snapshot or entries: whether the snapshot fits, whether
+-- nothing that is committed is truncated, whether the entries are in order, whether their memberships
+-- are and allow the commit, and whether the log then has what is to be committed
+pub record TakeTests : Type 0 where
+  pub fits : Bool
+  pub keeps : Bool
+  pub order : Bool
+  pub members : Bool
+  pub has : Bool
+
+-- all tests hold
+abbrev pub tests_hold : TakeTests
+tests_hold = record { fits = true; keeps = true; order = true; members = true; has = true }
+
+-- an error comes only if its test does not hold. An allocation may fail at any time, and no other
+-- error comes
+abbrev pub RefusedUnless : TakeTests → HandlerError → Type 0
+RefusedUnless t SnapshotDoesNotFit = t.fits ≡ false
+RefusedUnless t TruncatesCommitted = t.keeps ≡ false
+RefusedUnless t NotInOrder = t.order ≡ false
+RefusedUnless t MembershipNotInOrder = t.members ≡ false
+RefusedUnless t CommittedNotLogged = t.has ≡ false
+RefusedUnless t OutOfMemory = Unit {0}
+RefusedUnless t refusal = ⊥
 
 -- new entries truncate nothing that is committed
 abbrev pub keeps_committed : {K N I L C D : Type 0} → (C → C → Ordering) → List (EntryOf C K N D)
@@ -189,6 +203,13 @@ abbrev pub effective_before : {K N I L C D : Type 0} → List (EntryOf C K N D)
 effective_before [] s = log_id_of s.membership_state.effective
 effective_before (e ∷ es) s = effective_below e.log_id.index s
 
+-- new entries may take the place of the end of a log: they truncate nothing that is committed, and
+-- they are in order there, and so are their memberships
+abbrev pub may_replace : {K N I L C D : Type 0} → (C → C → Ordering) → List (EntryOf C K N D)
+    → RaftStateIn K N I L C → Bool
+may_replace cmp new s =
+    keeps_committed cmp new s && may_append_after cmp (last_before new s) (effective_before new s) new
+
 -- new entries may take the place of the end of a log, and a log id may be committed then
 abbrev pub may_take_new : {K N I L C D : Type 0} → (C → C → Bool) → (C → C → Ordering)
     → List (EntryOf C K N D) → Option (LogIdOf C) → RaftStateIn K N I L C → Bool
@@ -205,13 +226,42 @@ has_members_in_order cmp new id s =
     has_memberships_in_order cmp (effective_before new s) new
     && allows_commit_past cmp (effective_with (effective_before new s) new) s.committed id
 
--- why new entries, or the commit of a log id with them, are refused
-abbrev pub IsNewRefusal : {K N I L C D : Type 0} → (C → C → Bool) → (C → C → Ordering)
-    → List (EntryOf C K N D) → Option (LogIdOf C) → RaftStateIn K N I L C → HandlerError → Type 0
-IsNewRefusal eq cmp new id s refusal =
-    RefusedUnless true (keeps_committed cmp new s) (are_in_order cmp (last_before new s) new)
-    (has_members_in_order cmp new id s)
-    (has_committed_with eq cmp (full_log s.log_ids) s.committed new id) refusal
+-- the tests of new entries
+abbrev pub new_tests : {K N I L C D : Type 0} → (C → C → Ordering) → List (EntryOf C K N D)
+    → RaftStateIn K N I L C → TakeTests
+new_tests cmp new s = record tests_hold {
+  keeps = keeps_committed cmp new s;
+  order = are_in_order cmp (last_before new s) new;
+  members = has_memberships_in_order cmp (effective_before new s) new;
+}
+
+-- entries may be appended to a log: they are in order after its end, and so are their memberships
+abbrev pub may_extend : {K N I L C D : Type 0} → (C → C → Ordering) → List (EntryOf C K N D)
+    → RaftStateIn K N I L C → Bool
+may_extend cmp new s =
+    may_append_after cmp (last_id (full_log s.log_ids)) (log_id_of s.membership_state.effective) new
+
+-- the tests of entries that are to be appended
+abbrev pub end_tests : {K N I L C D : Type 0} → (C → C → Ordering) → List (EntryOf C K N D)
+    → RaftStateIn K N I L C → TakeTests
+end_tests cmp new s = record tests_hold {
+  order = are_in_order cmp (last_id (full_log s.log_ids)) new;
+  members = has_memberships_in_order cmp (log_id_of s.membership_state.effective) new;
+}
+
+-- the log has what is to be committed past the committed log id
+abbrev pub has_past_committed : {K N I L C : Type 0} → (C → C → Bool) → (C → C → Ordering)
+    → Option (LogIdOf C) → RaftStateIn K N I L C → Bool
+has_past_committed eq cmp id s =
+    if id_lt cmp s.committed id then has_id eq (full_log s.log_ids) id else true
+
+-- the tests of a log id that is to be committed
+abbrev pub commit_tests : {K N I L C : Type 0} → (C → C → Bool) → (C → C → Ordering)
+    → Option (LogIdOf C) → RaftStateIn K N I L C → TakeTests
+commit_tests eq cmp id s = record tests_hold {
+  members = state_may_commit cmp id s;
+  has = has_past_committed eq cmp id s;
+}
 
 -- the log ids up to an index, and then those of new entries
 abbrev pub log_with_new : {C K N D : Type 0} → List (LogIdOf C) → List (EntryOf C K N D)

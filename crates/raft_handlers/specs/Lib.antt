@@ -2,6 +2,7 @@ pub mod Append
 pub mod Campaign
 pub mod Changes
 pub mod Entries
+pub mod Follow
 pub mod Honest
 pub mod Leadership
 pub mod Proposals

@@ -1,6 +1,6 @@
 -- What a restart makes of the disk: the snapshot, and the entries past it.
 use Rattle.std.specs.Prelude.{◌≡◌, Bool, false, not, ◌&&◌, nat_eq, List, [], ◌∷◌, Option, Some, None, IsTrue}
-use Rattle.std.specs.Prelude.{◌+◌, ◌^◌, nat_lt, true, if◌then◌else◌}
+use Rattle.std.specs.Prelude.{◌+◌, ◌++◌, ◌^◌, nat_lt, true, if◌then◌else◌}
 use Rattle.std.specs.declared.cmp.Ordering.{Ordering}
 use Rattle.raft_base.specs.LogId.{id_lt, next_index}
 use Rattle.raft_base.specs.UTime.{moment_of}
@@ -11,19 +11,22 @@ use Rattle.raft_handlers.specs.Entries.{
   allows_commit_past,
   are_in_order,
   effective_with,
+  entry_ids,
   has_committed_with,
   has_id,
   has_memberships_in_order,
   RefusedUnless,
+  TakeTests,
 }
 use Rattle.raft_handlers.specs.declared.error.HandlerError.{HandlerError}
 use Rattle.raft_members.specs.membership.Members.{same_members}
 use Rattle.raft_members.specs.membership.Stored.{log_id_of, membership_of}
 use Rattle.raft_members.specs.declared.membership.stored.StoredMembershipOf.{StoredMembershipOf}
+use Rattle.raft_progress.specs.progress.Comparisons.{OrdMembers}
 use Rattle.raft_state.specs.IOState.{io_state}
 use Rattle.raft_state.specs.SnapshotMeta.{IsNoSnapshot, IsSnapshotCopy}
 use Rattle.raft_state.specs.entry.Entry.{payload_membership}
-use Rattle.raft_state.specs.log_id_list.FullLog.{full_log}
+use Rattle.raft_state.specs.log_id_list.FullLog.{full_log, same_log}
 use Rattle.raft_state.specs.membership_state.MembershipMoves.{after_commit, may_commit}
 use Rattle.raft_state.specs.membership_state.Memberships.{IsNoMembership, Memberships}
 use Rattle.raft_state.specs.raft_state.Appended.{AppendsMemberships}
@@ -125,15 +128,37 @@ pub record CommitsKnown {K N I L C : Type 0} (eq : C → C → Bool) (cmp : C �
   pub memberships : s.membership_state
       ≡ (if id_lt cmp before s.committed then after_commit cmp s.committed m else m)
 
+-- a server has what its disk has: the log is the last log id of the snapshot and then the log ids of
+-- the entries past it; all up to the snapshot is purged; what is known to be committed is committed
+pub record Restores {K N I L C D : Type 0} (ord : OrdMembers C) (id_eq : K → K → Bool)
+    (same : N → N → Bool) (meta : SnapshotMetaOf C K N) (stored : List (EntryOf C K N D))
+    (known : Option (LogIdOf C)) (s : RaftStateIn K N I L C) : Type 0 where
+  pub log : IsTrue (same_log ord.eq (full_log s.log_ids) (snapshot_ids meta.last_log_id
+      ++ entry_ids (entries_past ord.eq meta.last_log_id stored)))
+  pub purge_point : s.purge_upto ≡ meta.last_log_id
+  pub purged : s.purged_next ≡ next_index meta.last_log_id
+  pub snapshot : IsSnapshotAt id_eq same meta.last_log_id meta s.snapshot_meta
+  pub committed : (m : Memberships C K N) × AppendsStored ord.cmp id_eq same meta
+      (entries_past ord.eq meta.last_log_id stored) known m
+      × CommitsKnown ord.eq ord.cmp (greatest ord.cmp meta.last_log_id known) m s
+
+-- the tests of a restart: of the snapshot, and of entries that are past it
+abbrev pub restart_tests : {C K N D : Type 0} → (C → C → Bool) → (C → C → Ordering)
+    → SnapshotMetaOf C K N → List (EntryOf C K N D) → Option (LogIdOf C) → TakeTests
+restart_tests eq cmp meta past committed =
+    let effective = snapshot_membership meta.last_log_id meta.last_membership in
+    record {
+      fits = snapshot_fits cmp meta.last_log_id meta.last_membership;
+      keeps = true;
+      order = are_in_order cmp meta.last_log_id past;
+      members = has_memberships_in_order cmp effective past
+          && allows_commit_past cmp (effective_with effective past) meta.last_log_id committed;
+      has = has_committed_with eq cmp (snapshot_ids meta.last_log_id) meta.last_log_id past committed;
+    }
+
 -- why a restart is refused: the snapshot does not fit, or the entries past it are not in order, or
 -- their memberships, or the log does not have what is stored as committed
 abbrev pub IsRestartRefusal : {C K N D : Type 0} → (C → C → Bool) → (C → C → Ordering)
     → SnapshotMetaOf C K N → List (EntryOf C K N D) → Option (LogIdOf C) → HandlerError → Type 0
 IsRestartRefusal eq cmp meta es committed refusal =
-    let past = entries_past eq meta.last_log_id es in
-    let effective = snapshot_membership meta.last_log_id meta.last_membership in
-    RefusedUnless (snapshot_fits cmp meta.last_log_id meta.last_membership) true
-    (are_in_order cmp meta.last_log_id past)
-    (has_memberships_in_order cmp effective past
-    && allows_commit_past cmp (effective_with effective past) meta.last_log_id committed)
-    (has_committed_with eq cmp (snapshot_ids meta.last_log_id) meta.last_log_id past committed) refusal
+    RefusedUnless (restart_tests eq cmp meta (entries_past eq meta.last_log_id es) committed) refusal

@@ -7,8 +7,9 @@ use thiserror::Error;
 
 /// Why a handler refuses what it is asked for.
 ///
-/// After a refusal the state is as it was. The exception is `OutOfMemory` of
-/// `handle_append_entries`: then the log may be truncated already, or have the new entries already.
+/// After a refusal the state is as it was, except that a handler of a leader's request keeps the
+/// leader's vote. After an error of `handle_append_entries` the log may also be truncated at the
+/// first new entry, or have the new entries already.
 #[derive(Debug, Clone, Copy, PartialEq, Eq, Error)]
 pub enum HandlerError {
     /// An allocation failed. The call may be made again.
@@ -68,7 +69,7 @@ pub enum HandlerError {
     /// The server is not a member of the new cluster.
     #[error("the server is not a member of the new cluster")]
     NotInMembers,
-    /// A config of the membership is empty, or a voter has no node.
+    /// The membership has no config, one of its configs is empty, or a voter has no node.
     #[error("the membership could not decide")]
     InvalidMembership,
 }

@@ -1,18 +1,14 @@
 //! A restart: the state of a server from what its disk has.
-ghost use Rattle.std.specs.Prelude.{◌≡◌, ◌≤◌, ◌++◌, None, true, IfErr, IfOk, IsOk, IsTrue, OnErr, OnOk, drop, length};
+ghost use Rattle.std.specs.Prelude.{◌≡◌, ◌≤◌, None, IfErr, IfOk, IsTrue, OnOk, drop, length};
 ghost use Rattle.std.specs.Set.{ClonesAreEqual};
-ghost use Rattle.raft_base.specs.LogId.{next_index};
-ghost use Rattle.raft_handlers.specs.Append.{greatest};
-ghost use Rattle.raft_handlers.specs.Entries.{entry_ids, RefusedUnless};
-ghost use Rattle.raft_handlers.specs.Restart.{entries_past, snapshot_fits, snapshot_ids, AppendsStored, CommitsKnown, HasNotRun, HasSnapshotAlone, IsRestartRefusal, IsSnapshotAt};
+ghost use Rattle.raft_handlers.specs.Entries.{tests_hold, RefusedUnless};
+ghost use Rattle.raft_handlers.specs.Restart.{entries_past, snapshot_fits, CommitsKnown, HasNotRun, HasSnapshotAlone, IsRestartRefusal, Restores};
 ghost use Rattle.raft_state.specs.Accepted.{accepted_from};
-ghost use Rattle.raft_state.specs.log_id_list.FullLog.{full_log, same_log};
-ghost use Rattle.raft_state.specs.membership_state.Memberships.{Memberships};
 ghost use Rattle.raft_state.specs.raft_state.Sound.{IsSound};
 ghost use Rattle.raft_state.specs.raft_state.VoteAndLog.{vote_of};
 
 use crate::error::HandlerError;
-use crate::log::append_new;
+use crate::log::{append_new, commit};
 use crate::snapshot::install;
 use crate::state::State;
 use raft_base::{Instant, LeaderIdentity, LogIdOf, Node, NodeId, VoteIn};
@@ -53,29 +49,16 @@ pub fn restart_server<NID: NodeId, N: Node, I: Instant, L: LeaderIdentity<Id = N
         × (state.accepted ≡ accepted_from leader None)) }
     ensures not_run { IfOk result
         (HasNotRun L.Default.is_default L.Committed.Default.is_default) }
-    ensures log { IfOk result (λ state. IsTrue (same_log L.Committed.eq (full_log state.log_ids)
-        (snapshot_ids stored.now.snapshot.last_log_id ++ entry_ids (entries_past
-        L.Committed.eq stored.now.snapshot.last_log_id stored.now.entries.items)))) }
-    ensures purge_point { IfOk result (λ state.
-        state.purge_upto ≡ stored.now.snapshot.last_log_id) }
-    ensures purged { IfOk result (λ state.
-        state.purged_next ≡ next_index stored.now.snapshot.last_log_id) }
-    ensures snapshot { IfOk result (λ state. IsSnapshotAt NID.eq N.eq
-        stored.now.snapshot.last_log_id stored.now.snapshot state.snapshot_meta) }
-    ensures committed { IfOk result (λ state. (m : Memberships L.Committed NID N)
-        × AppendsStored L.Committed.cmp NID.eq N.eq stored.now.snapshot (entries_past
-        L.Committed.eq stored.now.snapshot.last_log_id stored.now.entries.items)
-        stored.now.committed m
-        × CommitsKnown L.Committed.eq L.Committed.cmp
-        (greatest L.Committed.cmp stored.now.snapshot.last_log_id stored.now.committed)
-        m state) }
+    ensures restores { IfOk result (Restores L.Committed.Ord NID.eq N.eq stored.now.snapshot
+        stored.now.entries.items stored.now.committed) }
     ensures refused { IfErr result (IsRestartRefusal L.Committed.eq L.Committed.cmp
         stored.now.snapshot stored.now.entries.items stored.now.committed) }
     ensures sound { IfOk result (IsSound L.Committed.eq L.Committed.cmp) }
 {
     let mut state: State<NID, N, I, L> = from_snapshot(alloc, &stored.snapshot)?;
     let place = first_past(stored.snapshot.last_log_id, &stored.entries);
-    append_new(&mut state, &stored.entries[place..], stored.committed)?;
+    append_new(&mut state, &stored.entries[place..])?;
+    commit(&mut state, stored.committed)?;
     commit_known(&mut state)?;
     state.accepted = AcceptedIn::new(L::default(), None);
     *state.vote.get_mut() = stored.vote;
@@ -114,8 +97,9 @@ fn from_snapshot<NID: NodeId, N: Node, I: Instant, L: LeaderIdentity<Id = NID> +
         (HasNotRun L.Default.is_default L.Committed.Default.is_default) }
     ensures fits { OnOk result (IsTrue (snapshot_fits L.Committed.cmp
         snapshot.now.last_log_id snapshot.now.last_membership)) }
-    ensures refused { IfErr result (RefusedUnless (snapshot_fits L.Committed.cmp
-        snapshot.now.last_log_id snapshot.now.last_membership) true true true true) }
+    ensures refused { IfErr result (RefusedUnless (record tests_hold {
+      fits = snapshot_fits L.Committed.cmp snapshot.now.last_log_id snapshot.now.last_membership;
+    })) }
     ensures sound { IfOk result (IsSound L.Committed.eq L.Committed.cmp) }
 {
     let mut state = State::<NID, N, I, L>::try_default(alloc)?;

@@ -1,14 +1,10 @@
 //! The start of a cluster, by one of its members.
-ghost use Rattle.std.specs.Prelude.{◌≡◌, ◌∷◌, [], false, Some, IfErr, IfOk, IsOk, IsTrue, OnOk, OnErr, is_some};
+ghost use Rattle.std.specs.Prelude.{◌≡◌, false, IfErr, IfOk, IsOk, IsTrue, OnOk, OnErr, is_some};
 ghost use Rattle.std.specs.Set.{ClonesAreEqual};
-ghost use Rattle.raft_handlers.specs.Proposals.{AppendsPayload};
-ghost use Rattle.raft_handlers.specs.Start.{first_log_id, BelongsToCluster, IsStartRefusal};
-ghost use Rattle.raft_members.specs.membership.Members.{members_of, node_at};
-ghost use Rattle.raft_members.specs.membership.Valid.{IsValid};
-ghost use Rattle.raft_state.specs.log_id_list.FullLog.{full_log};
+ghost use Rattle.raft_handlers.specs.Start.{first_log_id, BelongsToCluster, CanDecide, IsStartRefusal, Starts};
+ghost use Rattle.raft_members.specs.membership.Members.{node_at};
 ghost use Rattle.raft_state.specs.raft_state.Sound.{IsSound};
 ghost use Rattle.raft_state.specs.raft_state.VoteAndLog.{vote_of};
-ghost use Rattle.raft_state.specs.declared.entry.payload.EntryPayload.TheVariants.{Membership as Stores};
 
 use crate::error::HandlerError;
 use crate::state::State;
@@ -20,7 +16,8 @@ use raft_state::{EntryOf, EntryPayload, VoteStateReader};
 /// 0, holds the membership, which is effective from then on. Returns that entry, alone: write it to
 /// disk, and then become a candidate.
 ///
-/// Only a server without log and without vote may start a cluster.
+/// Only a server without log and without vote may start a cluster, and only a membership that can
+/// decide may start one: it has a config, no config is empty, and each voter has a node.
 ///
 /// After an error nothing has changed.
 pub fn start_cluster<NID: NodeId, N: Node, I: Instant, L: LeaderIdentity<Id = NID> + Drop, D: Drop>(
@@ -31,21 +28,15 @@ pub fn start_cluster<NID: NodeId, N: Node, I: Instant, L: LeaderIdentity<Id = NI
     requires clones_are_equal { ClonesAreEqual N.eq N.is_clone }
     ensures new { IsOk result → BelongsToCluster L.eq L.Default.is_default state.old false }
     ensures member { OnOk result (IsTrue (is_some (node_at NID.cmp membership.nodes id.now))) }
-    ensures valid { OnOk result (IsValid NID.eq (members_of NID.cmp membership)) }
-    ensures entry { IfOk result (λ entries. entries.items ≡ record {
-      log_id = first_log_id (L.committed (vote_of state.old).leader_id);
-      payload = Stores membership;
-    } ∷ []) }
-    ensures log { OnOk result (full_log state.new.log_ids
-        ≡ first_log_id (L.committed (vote_of state.old).leader_id) ∷ []) }
-    ensures effective { OnOk result (AppendsPayload NID.eq N.eq
-        (first_log_id (L.committed (vote_of state.old).leader_id)) (Some membership)
-        state.old.membership_state state.new.membership_state) }
+    ensures decides { OnOk result (CanDecide NID.eq NID.cmp membership) }
+    ensures starts { IfOk result (λ entries. Starts NID.eq N.eq
+        (first_log_id (L.committed (vote_of state.old).leader_id)) membership entries.items
+        state.old state.new) }
     ensures rest { state.new ≡ record state.old {
       log_ids = state.new.log_ids;
       membership_state = state.new.membership_state;
     } }
-    ensures refused { IfErr result (IsStartRefusal L.eq L.Default.is_default NID.eq NID.cmp
+    ensures refused { IfErr result (IsStartRefusal L.eq L.Default.is_default NID.Ord
         state.old id.now membership) }
     ensures err { OnErr result (state.new ≡ state.old) }
     ensures sound { IsSound L.Committed.eq L.Committed.cmp state.old →
@@ -56,6 +47,10 @@ pub fn start_cluster<NID: NodeId, N: Node, I: Instant, L: LeaderIdentity<Id = NI
     }
     if !membership.contains(id) {
         return Err(HandlerError::NotInMembers);
+    }
+    // Without a config there is no voter, and nothing could ever be decided.
+    if membership.get_joint_config().as_slice().is_empty() {
+        return Err(HandlerError::InvalidMembership);
     }
     if membership.ensure_valid().is_err() {
         return Err(HandlerError::InvalidMembership);

@@ -87,8 +87,8 @@ const ROWS: &[(&str, Sent, Answer, Row, Row)] = &[
         FIRST,
     ),
     (
-        "the entries have a gap",
-        (3, END, &[(3, 5)], None),
+        "the entries have a gap, and the vote is the leader's",
+        (4, END, &[(4, 5)], None),
         Answer::Refused(HandlerError::NotInOrder),
         END,
         FIRST,
@@ -121,10 +121,17 @@ const ROWS: &[(&str, Sent, Answer, Row, Row)] = &[
         END,
         FIRST,
     ),
+    (
+        "the new entries stay if what is to be committed is refused",
+        (4, FIRST, &[(4, 2)], Some((2, 9))),
+        Answer::Refused(HandlerError::CommittedNotLogged),
+        Some((4, 2)),
+        FIRST,
+    ),
 ];
 
 /// Whether a follower answers a request, which has the number 7, as it should, and is then as it
-/// should be.
+/// should be. Its vote is that of the leader 1 of term 3, or of a later term that it has heard of.
 fn answers<K: LeaderKind<u64>>(
     state: &mut StateOf<K>,
     alloc: Global,
@@ -138,8 +145,13 @@ fn answers<K: LeaderKind<u64>>(
         entries: entries::<K>(alloc, sent.2)?,
         committed: id::<K>(sent.3),
     };
-    let is_answered = handle_append_entries(state, &request) == due::<K>(sent.0, answer);
-    Ok(is_answered && is_at::<K>(state, last, committed))
+    let answered = handle_append_entries(state, &request);
+    let are_right = [
+        answered == due::<K>(sent.0, answer),
+        *state.vote.get() == VoteOf::<u64, K>::new_committed(sent.0.max(3), 1),
+        is_at::<K>(state, last, committed),
+    ];
+    Ok(are_right == [true; 3])
 }
 
 /// Returns the name of the first row that a follower does not answer as it should.

@@ -52,21 +52,27 @@ fn a_cluster_starts_once(rt: HostRuntime) -> Result<(), Fail> {
     Ok(())
 }
 
-/// A membership of node 1 whose only config has no voter.
-fn no_voter(alloc: Global) -> Result<Membership<u64, EmptyNode>, AllocError> {
+/// A membership of node 1 whose only config has no voter, or that has no config.
+fn no_voter(alloc: Global, has_config: bool) -> Result<Membership<u64, EmptyNode>, AllocError> {
     let nodes: BTreeMap<u64, EmptyNode> = (1..=1).map(|id| (id, EmptyNode::new())).collect(alloc)?;
-    Membership::new_unchecked(vec![in alloc; BTreeSet::new(alloc)]?, nodes)
+    let mut configs = Vec::new(alloc);
+    if has_config {
+        configs.extend(Some(BTreeSet::new(alloc)))?;
+    }
+    Membership::new_unchecked(configs, nodes)
 }
 
 #[test]
 fn a_cluster_needs_voters(rt: HostRuntime) -> Result<(), Fail> {
     let alloc = rt.alloc();
-    let state = StateOf::<LeaderAdv>::try_default(alloc);
-    let refused = on(
-        state,
-        |state| start::<LeaderAdv>(state, 1, no_voter(alloc)?),
-    );
-    assert!(rt; refused == Err(HandlerError::InvalidMembership));
+    for has_config in [false, true] {
+        let state = StateOf::<LeaderAdv>::try_default(alloc);
+        let refused = on(
+            state,
+            |state| start::<LeaderAdv>(state, 1, no_voter(alloc, has_config)?),
+        );
+        assert!(rt; refused == Err(HandlerError::InvalidMembership));
+    }
     Ok(())
 }
 

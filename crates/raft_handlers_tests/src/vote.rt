@@ -12,7 +12,8 @@ use std::test::Fail;
 pub type Asked = (&'static str, (u64, u64), Row, bool);
 
 /// The term and the node of a vote, the last log id of the candidate, and whether a server grants
-/// the vote that has promised term 3 to node 1, and whose last log id is (2, 3).
+/// the vote that has promised term 3 to node 1, and whose last log id is (2, 3). The vote of node 9
+/// is committed already.
 pub const ROWS: &[Asked] = &[
     ("a log as long", (4, 2), Some((2, 3)), true),
     (
@@ -31,6 +32,12 @@ pub const ROWS: &[Asked] = &[
     ("an empty log", (4, 2), None, false),
     ("an earlier term", (2, 2), Some((2, 3)), false),
     (
+        "a vote that is committed already",
+        (4, 9),
+        Some((2, 3)),
+        false,
+    ),
+    (
         "its own vote, which is committed",
         (3, 1),
         Some((2, 3)),
@@ -44,8 +51,10 @@ pub fn answers<K: LeaderKind<u64>>(
     row: &Asked,
 ) -> Result<bool, AllocError> {
     let (_, (term, node), last, granted) = *row;
+    let mut asked = VoteOf::<u64, K>::new(term, node);
+    asked.committed = node == 9;
     let request = VoteRequest {
-        vote: VoteOf::<u64, K>::new(term, node),
+        vote: asked,
         last_log_id: id::<K>(last),
     };
     let vote = if granted {

@@ -51,6 +51,7 @@ use Rattle.raft_handlers.proofs.EntryLemmas.{same_through}
 use Rattle.raft_handlers.specs.Append.{has_entry, last_of, least, may_cut_at, may_take, new_of}
 use Rattle.raft_handlers.specs.Entries.{
   allows_commit,
+  are_in_order,
   effective_below,
   effective_with,
   ends_before as log_ends_before,
@@ -699,7 +700,7 @@ module _ {C : Type 0} (cmp : C → C → Ordering) (eq : C → C → Bool) (tota
           there = as_in_log (full_log ks) prev piece.has_prev
 
           by : (t : Bool) → purged_or_logged eq s prev ≡ t
-              → (if t then are_consecutive prev (entry_ids es)
+              → (if t then are_in_order cmp prev es
               && may_take_new eq cmp (new_of eq s es) (least cmp committed (last_of prev es)) s
               else may_cut_at cmp prev s) ≡ true
           by true h =
@@ -708,6 +709,7 @@ module _ {C : Type 0} (cmp : C → C → Ordering) (eq : C → C → Bool) (tota
               let r = split prev es are_new in
               let last = last_in ks keys prev es there piece.has_entries in
               let id = least_in committed (last_of prev es) (as_in_log (full_log ks) committed piece.has_committed) last in
-              both_true piece.consecutive (take_new r.0 (new_of eq s es) (least cmp committed (last_of prev es)) r.1 r.2 id.0
-              (rw r.3 id.1))
+              let follow = entries_follow ks keys prev es there piece.has_entries piece.consecutive in
+              both_true (both_true follow piece.consecutive)
+              (take_new r.0 (new_of eq s es) (least cmp committed (last_of prev es)) r.1 r.2 id.0 (rw r.3 id.1))
           by false h = cut prev there h

@@ -1,22 +1,11 @@
 -- Why entries are refused.
-use Rattle.std.proofs.Common.{◌≡◌, ℕ, Bool, true, false, ◌&&◌, List, Option, drop, if◌then◌else◌, refl, subst, sym, true≢false, ◌∙◌}
-use Rattle.std.proofs.lemmas.Bool.{and_parts, and_right}
-use Rattle.std.specs.List.{prefix_len}
+use Rattle.std.proofs.Common.{◌≡◌, Bool, true, false, ◌&&◌, List, Option, if◌then◌else◌, refl, sym, true≢false, ◌∙◌}
+use Rattle.std.proofs.lemmas.Bool.{and_parts}
 use Rattle.std.specs.Cmp.Derive.{both_true}
 use Rattle.std.specs.declared.cmp.Ordering.{Ordering}
 use Rattle.raft_base.specs.LogId.{id_lt}
 use Rattle.raft_base.specs.declared.log_id.LogIdOf.{LogIdOf}
-use Rattle.raft_handlers.specs.Append.{
-  has_entry,
-  last_of,
-  least,
-  may_cut_at,
-  may_take,
-  new_of,
-  IsAppendRefusal,
-  IsAppendRefusalBy,
-  IsTakeRefusal,
-}
+use Rattle.raft_handlers.specs.Append.{append_tests, last_of, least, may_cut_at, may_take, new_of, take_tests}
 use Rattle.raft_handlers.specs.Entries.{
   allows_commit,
   allows_commit_past,
@@ -25,15 +14,15 @@ use Rattle.raft_handlers.specs.Entries.{
   effective_with,
   entry_ids,
   has_committed_with,
-  has_members_in_order,
   has_memberships_in_order,
   has_with,
   keeps_committed,
   last_before,
   may_commit_with,
   may_take_new,
-  IsNewRefusal,
+  tests_hold,
   RefusedUnless,
+  TakeTests,
 }
 use Rattle.raft_handlers.specs.declared.error.HandlerError.{HandlerError}
 use Rattle.raft_handlers.specs.declared.error.HandlerError.TheVariants.{
@@ -58,20 +47,21 @@ use Rattle.raft_handlers.specs.declared.error.HandlerError.TheVariants.{
   UnknownMember,
 }
 use Rattle.raft_state.specs.log_id_list.FullLog.{full_log}
-use Rattle.raft_state.specs.raft_state.Appended.{are_consecutive}
 use Rattle.raft_state.specs.raft_state.Sound.{purged_or_logged}
 use Rattle.raft_state.specs.declared.entry.EntryOf.{EntryOf}
 use Rattle.raft_state.specs.declared.raft_state.RaftStateIn.{RaftStateIn}
 
--- conditions that hold only if others do have the same refusals, and more
-module _ (f k o m h f2 k2 o2 m2 h2 : Bool) (fits : f ≡ false → f2 ≡ false) (keeps : k ≡ false → k2 ≡ false)
-    (order : o ≡ false → o2 ≡ false) (members : m ≡ false → m2 ≡ false) (has : h ≡ false → h2 ≡ false) where
-  pub refused_unless_more : (e : HandlerError) → RefusedUnless f k o m h e → RefusedUnless f2 k2 o2 m2 h2 e
+-- tests that hold only if others do have the same refusals, and more
+module _ (t u : TakeTests) (fits : t.fits ≡ false → u.fits ≡ false) (keeps : t.keeps ≡ false → u.keeps ≡ false)
+    (order : t.order ≡ false → u.order ≡ false) (members : t.members ≡ false → u.members ≡ false)
+    (has : t.has ≡ false → u.has ≡ false) where
+  pub refused_unless_more : (e : HandlerError) → RefusedUnless t e → RefusedUnless u e
   refused_unless_more OutOfMemory r = r
   refused_unless_more NotInOrder r = order r
   refused_unless_more TruncatesCommitted r = keeps r
   refused_unless_more MembershipNotInOrder r = members r
   refused_unless_more CommittedNotLogged r = has r
+  refused_unless_more SnapshotDoesNotFit r = fits r
   refused_unless_more NotVoter r = absurd r
   refused_unless_more NoNextTerm r = absurd r
   refused_unless_more NotElected r = absurd r
@@ -82,18 +72,18 @@ module _ (f k o m h f2 k2 o2 m2 h2 : Bool) (fits : f ≡ false → f2 ≡ false)
   refused_unless_more HigherVote r = absurd r
   refused_unless_more (ResponseRefused x) r = absurd r
   refused_unless_more NotLogged r = absurd r
-  refused_unless_more SnapshotDoesNotFit r = fits r
   refused_unless_more NotAllowed r = absurd r
   refused_unless_more NotInMembers r = absurd r
   refused_unless_more InvalidMembership r = absurd r
 
--- if all conditions hold, only an allocation may have failed
-pub only_memory : (e : HandlerError) → RefusedUnless true true true true true e → e ≡ OutOfMemory
+-- if all tests hold, only an allocation may have failed
+pub only_memory : (e : HandlerError) → RefusedUnless tests_hold e → e ≡ OutOfMemory
 only_memory OutOfMemory r = refl
 only_memory NotInOrder r = absurd (true≢false r)
 only_memory TruncatesCommitted r = absurd (true≢false r)
 only_memory MembershipNotInOrder r = absurd (true≢false r)
 only_memory CommittedNotLogged r = absurd (true≢false r)
+only_memory SnapshotDoesNotFit r = absurd (true≢false r)
 only_memory NotVoter r = absurd r
 only_memory NoNextTerm r = absurd r
 only_memory NotElected r = absurd r
@@ -104,7 +94,6 @@ only_memory ForeignResponse r = absurd r
 only_memory HigherVote r = absurd r
 only_memory (ResponseRefused x) r = absurd r
 only_memory NotLogged r = absurd r
-only_memory SnapshotDoesNotFit r = absurd (true≢false r)
 only_memory NotAllowed r = absurd r
 only_memory NotInMembers r = absurd r
 only_memory InvalidMembership r = absurd r
@@ -122,28 +111,16 @@ may_commit_parts eq cmp log effective before id new may = by (id_lt cmp before i
 
 module _ {K N I L C D : Type 0} (eq : C → C → Bool) (cmp : C → C → Ordering) (prev : Option (LogIdOf C)) (es : List (EntryOf C K N D))
     (s : RaftStateIn K N I L C) where
-  -- new entries are refused for what the entries of a request are refused for
-  pub take_refused : (id : Option (LogIdOf C)) (place : ℕ) (e : HandlerError) → place ≡ prefix_len (has_entry eq s) es
-      → IsNewRefusal eq cmp (drop place es) id s e → IsTakeRefusal eq cmp prev es id s e
-  take_refused id place e is refused =
-      let new = new_of eq s es in
-      let order = are_in_order cmp (last_before new s) new in
-      let members = has_members_in_order cmp new id s in
-      let has = has_committed_with eq cmp (full_log s.log_ids) s.committed new id in
-      refused_unless_more true (keeps_committed cmp new s) order members has true (keeps_committed cmp new s)
-      (are_consecutive prev (entry_ids es) && order) members has (λ h. h) (λ h. h)
-      (λ h. and_right (are_consecutive prev (entry_ids es)) order h) (λ h. h) (λ h. h) e
-      (subst (λ (n : ℕ). IsNewRefusal eq cmp (drop n es) id s e) is refused)
-
   -- a request that may be taken is refused only if an allocation failed
   pub taken_error : (committed : Option (LogIdOf C)) (e : HandlerError) → may_take eq cmp prev es committed s ≡ true
-      → IsAppendRefusal eq cmp prev es committed s e → e ≡ OutOfMemory
+      → RefusedUnless (append_tests (purged_or_logged eq s prev) eq cmp prev es (least cmp committed (last_of prev es)) s) e
+      → e ≡ OutOfMemory
   taken_error committed e may refused = by (purged_or_logged eq s prev) may refused
     where
-      by : (t : Bool) → (if t then are_consecutive prev (entry_ids es)
+      by : (t : Bool) → (if t then are_in_order cmp prev es
           && may_take_new eq cmp (new_of eq s es) (least cmp committed (last_of prev es)) s
           else may_cut_at cmp prev s) ≡ true
-          → IsAppendRefusalBy t eq cmp prev es (least cmp committed (last_of prev es)) s e → e ≡ OutOfMemory
+          → RefusedUnless (append_tests t eq cmp prev es (least cmp committed (last_of prev es)) s) e → e ≡ OutOfMemory
       by true h r =
           let new = new_of eq s es in
           let id = least cmp committed (last_of prev es) in
@@ -151,13 +128,13 @@ module _ {K N I L C D : Type 0} (eq : C → C → Bool) (cmp : C → C → Order
           let members = has_memberships_in_order cmp (effective_before new s) new in
           let effective = effective_with (effective_before new s) new in
           let commit = may_commit_with eq cmp (full_log s.log_ids) effective new s.committed id in
-          let a = and_parts (are_consecutive prev (entry_ids es)) (may_take_new eq cmp new id s) h in
+          let a = and_parts (are_in_order cmp prev es) (may_take_new eq cmp new id s) h in
           let b = and_parts (keeps_committed cmp new s) (order && members && commit) a.1 in
           let d = and_parts (order && members) commit b.1 in
           let f = and_parts order members d.0 in
           let m = may_commit_parts eq cmp (full_log s.log_ids) effective s.committed id new d.1 in
-          only_memory e (refused_unless_more true (keeps_committed cmp new s) (are_consecutive prev (entry_ids es) && order)
-          (has_members_in_order cmp new id s) (has_committed_with eq cmp (full_log s.log_ids) s.committed new id) true true true true true
+          only_memory e (refused_unless_more (take_tests eq cmp prev es id s) tests_hold
           (λ k. k) (λ k. sym b.0 ∙ k) (λ k. sym (both_true a.0 f.0) ∙ k) (λ k. sym (both_true f.1 m.1) ∙ k) (λ k. sym m.0 ∙ k) e r)
-      by false h r = only_memory e (refused_unless_more true (may_cut_at cmp prev s) true true true true true true true true
+      by false h r =
+          only_memory e (refused_unless_more (record tests_hold { keeps = may_cut_at cmp prev s }) tests_hold
           (λ k. k) (λ k. sym h ∙ k) (λ k. k) (λ k. k) (λ k. k) e r)

@@ -31,6 +31,7 @@ use Rattle.std.proofs.Common.{
 }
 use Rattle.std.proofs.Math.Bool.{and-false, and-true}
 use Rattle.std.proofs.lemmas.Bool.Decides.{nat_tests}
+use Rattle.std.proofs.lemmas.Bool.{and_right}
 use Rattle.std.proofs.lemmas.List.{append-nil}
 use Rattle.std.specs.Cmp.{IsEquivalence, IsPartialOrder, IsTotalOrder}
 use Rattle.std.specs.Prelude.{is_some, Result, Ok, Err}
@@ -46,24 +47,35 @@ use Rattle.raft_base.specs.declared.log_id.LogIdOf.{LogIdOf}
 use Rattle.raft_base.specs.declared.vote.VoteIn.{VoteIn}
 use Rattle.raft_base.specs.LogIdLawful.{optional-log_id_cmp-total}
 use Rattle.raft_handlers.proofs.lemmas.RefusalLemmas.{refused_unless_more}
-use Rattle.raft_handlers.specs.Append.{memberships_before, TakesMemberships}
+use Rattle.raft_handlers.proofs.lemmas.TakeLemmas.{
+  commit_allows,
+  commit_committed,
+  commit_lacks,
+  commit_log,
+  commit_point,
+  commit_purged,
+  commit_snapshot,
+  commit_takes,
+}
+use Rattle.raft_handlers.specs.Append.{greatest, memberships_before, Replaces, TakesMemberships}
 use Rattle.raft_handlers.specs.Entries.{
   allows_commit_past,
-  are_in_order,
+  commit_tests,
   effective_before,
   effective_with,
   ends_before,
   entry_ids,
-  has_committed_with,
   has_id,
   has_memberships_in_order,
   keeps_committed,
   last_before,
   log_with_new,
-  IsNewRefusal,
+  new_tests,
+  tests_hold,
 }
 use Rattle.raft_handlers.specs.Restart.{
   entries_past,
+  restart_tests,
   snapshot_fits,
   snapshot_ids,
   snapshot_membership,
@@ -73,6 +85,7 @@ use Rattle.raft_handlers.specs.Restart.{
   IsMembershipAt,
   IsRestartRefusal,
   IsSnapshotAt,
+  Restores,
 }
 use Rattle.raft_handlers.specs.Entries.{RefusedUnless}
 use Rattle.raft_handlers.specs.Snapshot.{install_refusal, InstallsSnapshot, RefusedFor}
@@ -81,22 +94,16 @@ use Rattle.raft_handlers.specs.declared.error.HandlerError.TheVariants.{Snapshot
 use Rattle.raft_members.specs.membership.Stored.{log_id_of}
 use Rattle.raft_state.proofs.lemmas.log_id_list.IdOrderLemmas.{none_at_most}
 use Rattle.raft_progress.proofs.lemmas.OrderLemmas.{AtMost-refl, not_lt-from_AtMost}
+use Rattle.raft_progress.specs.progress.Comparisons.{OrdMembers}
 use Rattle.raft_state.specs.Accepted.{accepted_from}
+use Rattle.raft_state.specs.SnapshotMeta.{IsSnapshotCopy}
 use Rattle.raft_state.specs.log_id_list.FullLog.{full_log}
 use Rattle.raft_state.specs.log_id_list.LogEdits.{front}
 use Rattle.raft_state.specs.log_id_list.LogReads.{last_id}
 use Rattle.raft_state.specs.membership_state.MembershipMoves.{after_commit, may_commit}
-use Rattle.raft_state.specs.membership_state.Memberships.{index_at, IsNoMembership, Memberships}
+use Rattle.raft_state.specs.membership_state.Memberships.{index_at, IsNoMembership}
 use Rattle.raft_state.specs.raft_state.Commit.{state_after_commit, state_may_commit}
-use Rattle.raft_state.specs.raft_state.Install.{
-  is_logged,
-  is_not_above,
-  is_not_past,
-  log_after_install,
-  may_accept,
-  may_install,
-  state_after_install,
-}
+use Rattle.raft_state.specs.raft_state.Install.{is_logged, is_not_above, is_not_past, may_accept, may_install}
 use Rattle.raft_state.specs.raft_state.NewState.{HasNewVote, IsNewState}
 use Rattle.raft_state.specs.raft_state.VoteAndLog.{log_view_of, vote_of}
 use Rattle.raft_state.specs.raft_state.Valid.{none_or_logged}
@@ -145,13 +152,13 @@ module _ {K N I L C : Type 0} (id_eq : K → K → Bool) (same : N → N → Boo
   }
 
   -- after an install it has that snapshot
-  pub alone_installed : (same_leader : L → L → Bool) (cmp : C → C → Ordering) (eq : C → C → Bool) (meta : SnapshotMetaOf C K N)
+  pub alone_installed : (same_leader : L → L → Bool) (ord : OrdMembers C) (meta : SnapshotMetaOf C K N)
       (old new : RaftStateIn K N I L C) (last : LogIdOf C) → meta.last_log_id ≡ Some last → full_log old.log_ids ≡ []
-      → InstallsSnapshot id_eq same same_leader cmp eq meta old new → HasSnapshotAlone id_eq same meta new
-  alone_installed same_leader cmp eq meta old new last is empty installed =
+      → InstallsSnapshot ord same_leader (IsSnapshotCopy id_eq same) meta old new → HasSnapshotAlone id_eq same meta new
+  alone_installed same_leader ord meta old new last is empty installed =
       let rest = rw is at installed.rest in
       let copied = rest.1 in
-      let kept : is_logged eq last old ≡ false = rw empty refl in
+      let kept : is_logged ord.eq last old ≡ false = rw empty refl in
       let log = rw is at installed.log in
       let begins : nat_le 0 last.index ≡ true = grind (arith, nat_tests) in
       let members : new.membership_state ≡ record { committed = rest.0.last_membership; effective = rest.0.last_membership } =
@@ -221,7 +228,7 @@ fits_if_taken true h = refl
 fits_if_taken false h = cc
 
 pub refused_if_not : (fits : Bool) (e : HandlerError) → RefusedFor (if not fits then Some SnapshotDoesNotFit else None)
-    (let refused : Result (Unit {0}) HandlerError = Err e in refused) → RefusedUnless fits true true true true e
+    (let refused : Result (Unit {0}) HandlerError = Err e in refused) → RefusedUnless (record tests_hold { fits = fits }) e
 refused_if_not true e h = rw h tt
 refused_if_not false e h = let is : e ≡ SnapshotDoesNotFit = cc in rw is refl
 
@@ -268,7 +275,7 @@ last_alone None = refl
 last_alone (Some x) = refl
 
 -- what a server with a snapshot alone has before entries past the snapshot
-module _ {K N I L C : Type 0} (id_eq : K → K → Bool) (same : N → N → Bool) (cmp : C → C → Ordering) (eq : C → C → Bool)
+module _ {K N I L C : Type 0} (id_eq : K → K → Bool) (same : N → N → Bool) (ord : OrdMembers C)
     (meta : SnapshotMetaOf C K N) (s : RaftStateIn K N I L C) (alone : HasSnapshotAlone id_eq same meta s) where
   last_is : last_id (full_log s.log_ids) ≡ meta.last_log_id
   last_is = rw alone.log (last_alone meta.last_log_id)
@@ -288,47 +295,89 @@ module _ {K N I L C : Type 0} (id_eq : K → K → Bool) (same : N → N → Boo
       by None m = m.log_id
       by (Some x) m = m.0
 
-  module _ {D : Type 0} (stored : List (EntryOf C K N D)) where
-    pub before_alone : (new : List (EntryOf C K N D)) → entries_past eq meta.last_log_id stored ≡ new
-        → (memberships_before new s ≡ s.membership_state) × (last_before new s ≡ meta.last_log_id)
+  module _ {D : Type 0} (stored new : List (EntryOf C K N D)) (is : entries_past ord.eq meta.last_log_id stored ≡ new)
+      (committed : Option (LogIdOf C)) where
+    before_alone : (memberships_before new s ≡ s.membership_state) × (last_before new s ≡ meta.last_log_id)
         × (effective_before new s ≡ snapshot_membership meta.last_log_id meta.last_membership)
-        × (keeps_committed cmp new s ≡ true) × (log_with_new (full_log s.log_ids) new ≡ snapshot_ids meta.last_log_id ++ entry_ids new)
-    before_alone [] is = (refl, last_is, effective_alone, refl, rw alone.log (sym (append-nil (snapshot_ids meta.last_log_id))))
-    before_alone (e ∷ es) is =
-        let le = past_begin eq meta.last_log_id stored es e is in
-        let ends = ends_alone e.log_id.index le in
-        let front_is : front (full_log s.log_ids) e.log_id.index ≡ snapshot_ids meta.last_log_id =
-        rw alone.log (front_alone meta.last_log_id e.log_id.index le) in (
-          rw ends refl,
-          ap last_id front_is ∙ last_alone meta.last_log_id,
-          rw ends effective_alone,
-          rw ends refl,
-          ap (λ xs. xs ++ entry_ids (e ∷ es)) front_is,
-        )
+        × (keeps_committed ord.cmp new s ≡ true)
+        × (log_with_new (full_log s.log_ids) new ≡ snapshot_ids meta.last_log_id ++ entry_ids new)
+    before_alone = by new is
+      where
+        by : (xs : List (EntryOf C K N D)) → entries_past ord.eq meta.last_log_id stored ≡ xs
+            → (memberships_before xs s ≡ s.membership_state) × (last_before xs s ≡ meta.last_log_id)
+            × (effective_before xs s ≡ snapshot_membership meta.last_log_id meta.last_membership)
+            × (keeps_committed ord.cmp xs s ≡ true)
+            × (log_with_new (full_log s.log_ids) xs ≡ snapshot_ids meta.last_log_id ++ entry_ids xs)
+        by [] is = (refl, last_is, effective_alone, refl, rw alone.log (sym (append-nil (snapshot_ids meta.last_log_id))))
+        by (e ∷ es) is =
+            let le = past_begin ord.eq meta.last_log_id stored es e is in
+            let ends = ends_alone e.log_id.index le in
+            let front_is : front (full_log s.log_ids) e.log_id.index ≡ snapshot_ids meta.last_log_id =
+            rw alone.log (front_alone meta.last_log_id e.log_id.index le) in (
+              rw ends refl,
+              ap last_id front_is ∙ last_alone meta.last_log_id,
+              rw ends effective_alone,
+              rw ends refl,
+              ap (λ xs. xs ++ entry_ids (e ∷ es)) front_is,
+            )
 
     -- entries past the snapshot are refused for what a restart is refused for
-    pub restart_refused : (new : List (EntryOf C K N D)) → entries_past eq meta.last_log_id stored ≡ new
-        → (committed : Option (LogIdOf C)) (e : HandlerError) → IsNewRefusal eq cmp new committed s e
-        → IsRestartRefusal eq cmp meta stored committed e
-    restart_refused new is committed e refused =
-        let b = before_alone new is in
-        let effective = snapshot_membership meta.last_log_id meta.last_membership in
-        let order = are_in_order cmp meta.last_log_id new in
-        let members = has_memberships_in_order cmp effective new
-        && allows_commit_past cmp (effective_with effective new) meta.last_log_id committed in
-        let has = has_committed_with eq cmp (snapshot_ids meta.last_log_id) meta.last_log_id new committed in
-        rw is (refused_unless_more true true order members has
-        (snapshot_fits cmp meta.last_log_id meta.last_membership) true order members has
-        (λ h. absurd (true≢false h)) (λ h. h) (λ h. h) (λ h. h) (λ h. h) e
-        (rw (b.3, b.1, b.2, alone.log, alone.committed) at refused))
+    pub restart_refused : (e : HandlerError) → RefusedUnless (new_tests ord.cmp new s) e
+        → IsRestartRefusal ord.eq ord.cmp meta stored committed e
+    restart_refused e refused =
+        let b = before_alone in
+        rw is (refused_unless_more (new_tests ord.cmp new s) (restart_tests ord.eq ord.cmp meta new committed)
+        (λ h. absurd (true≢false h)) (λ h. sym b.3 ∙ h) (λ h. rw b.1 at h) (λ h. rw (rw b.2 at h) refl)
+        (λ h. absurd (true≢false h)) e refused)
 
-    -- and what they make of the memberships
-    pub restart_members : (new : List (EntryOf C K N D)) → entries_past eq meta.last_log_id stored ≡ new
-        → (committed : Option (LogIdOf C)) (m : Memberships C K N) → TakesMemberships cmp id_eq same new committed s m
-        → AppendsStored cmp id_eq same meta (entries_past eq meta.last_log_id stored) committed m
-    restart_members new is committed m takes =
-        let b = before_alone new is in
-        rw is (s.membership_state, takes.0, alone.memberships, rw b.0 at takes.1, rw alone.committed at takes.2)
+    -- once they are appended
+    module _ (eqs : IsEquivalence ord.eq) (mid : RaftStateIn K N I L C) (replaced : Replaces ord id_eq same new s mid) where
+      -- so is the commit
+      pub restart_not_committed : (e : HandlerError) → RefusedUnless (commit_tests ord.eq ord.cmp committed mid) e
+          → IsRestartRefusal ord.eq ord.cmp meta stored committed e
+      restart_not_committed e refused =
+          let b = before_alone in
+          let effective = snapshot_membership meta.last_log_id meta.last_membership in
+          rw is (refused_unless_more (commit_tests ord.eq ord.cmp committed mid) (restart_tests ord.eq ord.cmp meta new committed)
+          (λ h. absurd (true≢false h)) (λ h. h) (λ h. absurd (true≢false h))
+          (λ h. and_right (has_memberships_in_order ord.cmp effective new)
+          (allows_commit_past ord.cmp (effective_with effective new) meta.last_log_id committed)
+          (rw (b.2, alone.committed) at (commit_allows ord id_eq same new committed s mid replaced false h)))
+          (λ h. rw (alone.log, alone.committed) at (commit_lacks ord id_eq same new committed s mid replaced eqs h)) e refused)
+
+      -- and then the server has what its disk has
+      pub restores : (after end : RaftStateIn K N I L C) → after ≡ state_after_commit ord.cmp committed mid
+          → CommitsKnown ord.eq ord.cmp after.committed after.membership_state end
+          → end ≡ record after { committed = end.committed; membership_state = end.membership_state }
+          → Restores ord id_eq same meta stored committed end
+      restores after end commits known rest =
+          let b = before_alone in
+          let logs : end.log_ids ≡ mid.log_ids = ap (λ t. t.log_ids) rest ∙ commit_log ord.cmp committed mid after commits in
+          let takes = commit_takes ord id_eq same new committed s mid replaced after commits in
+          let stays : mid.committed ≡ s.committed = ap (λ t. t.committed) replaced.rest in
+          let now : after.committed ≡ greatest ord.cmp meta.last_log_id committed =
+          rw (rw alone.committed at stays) at (commit_committed ord.cmp committed mid after commits) in
+          record {
+            log = rw (is, logs) (rw b.4 at replaced.log);
+            purge_point = ap (λ t. t.purge_upto) rest ∙ commit_point ord.cmp committed mid after commits
+                ∙ ap (λ t. t.purge_upto) replaced.rest ∙ alone.purge_point;
+            purged = ap (λ t. t.purged_next) rest ∙ commit_purged ord.cmp committed mid after commits
+                ∙ ap (λ t. t.purged_next) replaced.rest ∙ alone.purged_next;
+            snapshot = rw (snapshots after end commits rest) alone.snapshot;
+            committed = (after.membership_state, appended after takes, rw now at known);
+          }
+        where
+          snapshots : (after end : RaftStateIn K N I L C) → after ≡ state_after_commit ord.cmp committed mid
+              → end ≡ record after { committed = end.committed; membership_state = end.membership_state }
+              → end.snapshot_meta ≡ s.snapshot_meta
+          snapshots after end commits rest =
+              ap (λ t. t.snapshot_meta) rest ∙ commit_snapshot ord.cmp committed mid after commits ∙ ap (λ t. t.snapshot_meta) replaced.rest
+
+          appended : (after : RaftStateIn K N I L C) → TakesMemberships ord.cmp id_eq same new committed s after.membership_state
+              → AppendsStored ord.cmp id_eq same meta (entries_past ord.eq meta.last_log_id stored) committed after.membership_state
+          appended after takes =
+              let b = before_alone in
+              rw is (s.membership_state, takes.0, alone.memberships, rw b.0 at takes.1, rw alone.committed at takes.2)
 
 -- what is known to be committed
 not_below : {C : Type 0} (cmp : C → C → Ordering) → IsTotalOrder cmp → (o : Option (LogIdOf C)) → id_lt cmp o o ≡ false

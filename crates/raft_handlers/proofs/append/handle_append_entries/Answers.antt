@@ -1,19 +1,52 @@
-use Rattle.std.proofs.Common.{◌≡◌, rules}
-use Rattle.raft_handlers.specs.declared.error.HandlerError.TheVariants.{OutOfMemory}
-use Rattle.raft_handlers.proofs.RequestLemmas.{if_matches_weaker, promised_has}
+use Rattle.std.proofs.Common.{◌≡◌, ap, rules, sym, ◌∙◌}
 use Rattle.raft_handlers.proofs.lemmas.RefusalLemmas.{taken_error}
+use Rattle.raft_handlers.proofs.lemmas.TakeLemmas.{heard_answers, heard_refuses, heard_rest, not_heard}
+use Rattle.raft_handlers.specs.Follow.{vote_heard}
+use Rattle.raft_handlers.specs.declared.error.HandlerError.TheVariants.{OutOfMemory}
 use Rattle.raft_handlers.proofs.append.handle_append_entries.Goals as goal
 
-pub returns-in_ok-outcome-clause-has_entries : goal.returns-in_ok-outcome-clause-has_entries
-returns-in_ok-outcome-clause-has_entries g c =
-    if_matches_weaker c.in_ok-outcome.outcome
-    (λ _ has. promised_has c.promise-promised.result c.match_log.new.state c.promise-promised.new.self _ c.promise-promised.ensures.taken
-    g.L.Committed.PartialEq.eq c.args.request.now.entries.items has) c.in_ok-outcome.ensures.has_entries
+pub returns-then-not-follow-clause-answers : goal.returns-then-not-follow-clause-answers
+returns-then-not-follow-clause-answers g c =
+    let s = c.args.state.now in
+    let leader = c.args.request.now.leader_id in
+    let order = g.L.LeaderIdentity.order in (
+      c.vote_ref-promised.ensures,
+      not_heard order leader s c.follow.new.state (sym c.follow.ensures.answer ∙ c.if-not-follow.true) c.follow.ensures.heard,
+    )
+
+pub returns-clause-vote : goal.returns-clause-vote
+returns-clause-vote g c = ap (λ t. t.vote) c.in_ok-outcome.ensures.rest ∙ ap (λ t. t.vote) c.follow.ensures.heard
+
+pub returns-in_err-outcome-clause-vote : goal.returns-in_err-outcome-clause-vote
+returns-in_err-outcome-clause-vote g c = ap (λ t. t.vote) c.in_err-outcome.ensures.rest ∙ ap (λ t. t.vote) c.follow.ensures.heard
+
+pub returns-clause-rest : goal.returns-clause-rest
+returns-clause-rest g c =
+    heard_rest c.args.state.now c.follow.new.state c.match_log.new.state _ c.follow.ensures.heard c.in_ok-outcome.ensures.rest
+
+pub returns-in_err-outcome-clause-rest : goal.returns-in_err-outcome-clause-rest
+returns-in_err-outcome-clause-rest g c =
+    heard_rest c.args.state.now c.follow.new.state c.match_log.new.state _ c.follow.ensures.heard c.in_err-outcome.ensures.rest
+
+pub returns-clause-answers : goal.returns-clause-answers
+returns-clause-answers g c =
+    heard_answers _ g.NID.PartialEq.eq g.N.PartialEq.eq c.args.state.now c.match_log.new.state
+    (vote_heard g.L.LeaderIdentity.order c.args.request.now.leader_id c.args.state.now) c.args.request.now c.in_ok-outcome.outcome
+    c.in_ok-outcome.ensures.followed (rw c.follow.ensures.heard at c.in_ok-outcome.ensures.answers)
+
+pub returns-in_err-outcome-clause-refuses : goal.returns-in_err-outcome-clause-refuses
+returns-in_err-outcome-clause-refuses g c =
+    let refuses = heard_refuses _ g.NID.PartialEq.eq g.N.PartialEq.eq c.args.state.now c.match_log.new.state
+    (vote_heard g.L.LeaderIdentity.order c.args.request.now.leader_id c.args.state.now) c.args.request.now c.in_err-outcome.field-0.0
+    (rw c.follow.ensures.heard at c.in_err-outcome.ensures.refuses) in
+    search (rules, refuses)
 
 pub returns-in_err-outcome-clause-honest : goal.returns-in_err-outcome-clause-honest
 returns-in_err-outcome-clause-honest g c = λ sound honest.
+    let refuses = heard_refuses _ g.NID.PartialEq.eq g.N.PartialEq.eq c.args.state.now c.match_log.new.state
+    (vote_heard g.L.LeaderIdentity.order c.args.request.now.leader_id c.args.state.now) c.args.request.now c.in_err-outcome.field-0.0
+    (rw c.follow.ensures.heard at c.in_err-outcome.ensures.refuses) in
     let memory : c.in_err-outcome.field-0.0 ≡ OutOfMemory =
     taken_error g.L.Committed.PartialEq.eq g.L.Committed.Ord.cmp c.args.request.now.prev c.args.request.now.entries.items c.args.state.now
-    c.args.request.now.committed c.in_err-outcome.field-0.0 (c.honest_request_may_be_taken.ensures sound honest)
-    c.in_err-outcome.ensures.reason in
+    c.args.request.now.committed c.in_err-outcome.field-0.0 (c.honest_request_may_be_taken.ensures sound honest) refuses.reason in
     search (rules, memory)

@@ -1,71 +1,51 @@
-use Rattle.std.proofs.Common.{◌≡◌, ap}
-use Rattle.std.proofs.lemmas.Result.{on_ok_weaker, IfErr-weaker}
-use Rattle.raft_handlers.proofs.EntryLemmas.{entries_consecutive, entries_present, prev_stays, slice_rest}
-use Rattle.raft_handlers.proofs.lemmas.RefusalLemmas.{take_refused}
+use Rattle.std.proofs.Common.{refl, rules, sym, ◌∙◌}
+use Rattle.raft_handlers.proofs.EntryLemmas.{slice_rest}
+use Rattle.raft_handlers.proofs.lemmas.TakeLemmas.{
+  commit_refused,
+  commit_took,
+  disorder_refused,
+  if_err_both,
+  new_refused,
+  on_ok_all,
+  take_rest,
+}
 use Rattle.raft_handlers.proofs.append.take_entries.Goals as goal
 
-pub returns-clause-has_prev : goal.returns-clause-has_prev
-returns-clause-has_prev g c =
-    let old = c.args.state.now in
-    let new = c.append_new.new.state in
-    let rest = slice_rest c.in-Some.place c.args.entries.now in
-    let purged : new.purged_next ≡ old.purged_next = ap (λ s. s.purged_next) c.append_new.ensures.rest in
-    on_ok_weaker c.append_new.result (λ _. prev_stays g.C.PartialEq.eq g.met.C.Eq.laws old new c.args.prev c.args.entries.now
-    c.in-Some.place
-    c.in-Some.ensures.consecutive (rw rest at c.append_new.ensures.kept) purged (rw rest at c.append_new.ensures.unchanged) c.requires.prev)
-    c.append_new.ensures.own
+pub returns-then-not-are_in_order-clause-refused : goal.returns-then-not-are_in_order-clause-refused
+returns-then-not-are_in_order-clause-refused g c =
+    disorder_refused _ g.NID.PartialEq.eq g.N.PartialEq.eq g.met.C.Eq.laws c.args.prev c.args.entries.now c.args.committed
+    c.args.state.now (sym c.are_in_order.ensures ∙ c.if-not-are_in_order.true)
 
-pub returns-clause-has_entries : goal.returns-clause-has_entries
-returns-clause-has_entries g c =
-    let old = c.args.state.now in
-    let new = c.append_new.new.state in
-    let rest = slice_rest c.in-Some.place c.args.entries.now in
-    let purged : new.purged_next ≡ old.purged_next = ap (λ s. s.purged_next) c.append_new.ensures.rest in
-    on_ok_weaker c.append_new.result (λ own. entries_present g.C.PartialEq.eq g.met.C.Eq.laws old new c.args.prev c.args.entries.now
-    c.in-Some.place c.in-Some.ensures.place c.in-Some.ensures.consecutive (rw rest at c.append_new.ensures.kept) purged
-    (rw rest at c.append_new.ensures.unchanged) (rw rest at own)) c.append_new.ensures.own
+pub returns-in_err-append_new-clause-refused : goal.returns-in_err-append_new-clause-refused
+returns-in_err-append_new-clause-refused g c =
+    let rest = slice_rest c.first_new-place.result c.args.entries.now in
+    let refused = new_refused _ g.NID.PartialEq.eq g.N.PartialEq.eq g.met.C.Eq.laws c.args.prev c.args.entries.now c.args.committed
+    c.args.state.now c.first_new-place.result c.first_new-place.ensures.place c.requires.prev
+    (sym c.are_in_order.ensures ∙ c.if-not-are_in_order.false) c.append_new.new.state c.in_err-append_new.field-0.0
+    (rw rest at c.in_err-append_new.ensures.refused) (rw rest at c.in_err-append_new.ensures.stopped) in
+    search (rules, refused)
 
-pub returns-clause-consecutive : goal.returns-clause-consecutive
-returns-clause-consecutive g c =
-    let rest = slice_rest c.in-Some.place c.args.entries.now in
-    on_ok_weaker c.append_new.result (λ follow. entries_consecutive g.C.PartialEq.eq g.met.C.Eq.laws c.args.state.now c.append_new.new.state
-    c.args.prev c.args.entries.now c.in-Some.place c.in-Some.ensures.consecutive (rw rest at follow)) c.append_new.ensures.consecutive
+pub returns-in_err-append_new-clause-rest : goal.returns-in_err-append_new-clause-rest
+returns-in_err-append_new-clause-rest g c =
+    take_rest c.args.state.now c.append_new.new.state c.append_new.new.state c.in_err-append_new.ensures.rest refl
 
-pub returns-clause-ends : goal.returns-clause-ends
-returns-clause-ends g c =
-    let place = c.in-Some.ensures.place in
-    let rest = slice_rest c.in-Some.place c.args.entries.now in
-    rw (← place) (rw rest at c.append_new.ensures.ends)
+pub returns-clause-refused : goal.returns-clause-refused
+returns-clause-refused g c =
+    let rest = slice_rest c.first_new-place.result c.args.entries.now in
+    if_err_both c.commit.result (λ e stays why. commit_refused _ g.NID.PartialEq.eq g.N.PartialEq.eq g.met.C.Eq.laws c.args.prev
+    c.args.entries.now c.args.committed c.args.state.now c.first_new-place.result c.first_new-place.ensures.place c.requires.prev
+    (sym c.are_in_order.ensures ∙ c.if-not-are_in_order.false) c.append_new.new.state
+    (rw rest at c.in_ok-append_new.ensures.replaced) c.commit.new.state e stays why) c.commit.ensures.err c.commit.ensures.refused
 
-pub returns-clause-memberships : goal.returns-clause-memberships
-returns-clause-memberships g c =
-    let place = c.in-Some.ensures.place in
-    let rest = slice_rest c.in-Some.place c.args.entries.now in
-    rw (← place) (rw rest at c.append_new.ensures.memberships)
+pub returns-clause-took : goal.returns-clause-took
+returns-clause-took g c =
+    let rest = slice_rest c.first_new-place.result c.args.entries.now in
+    on_ok_all c.commit.result (λ may has ok. commit_took _ g.NID.PartialEq.eq g.N.PartialEq.eq g.met.C.Eq.laws c.args.prev
+    c.args.entries.now c.args.committed c.args.state.now c.first_new-place.result c.first_new-place.ensures.place c.requires.prev
+    (sym c.are_in_order.ensures ∙ c.if-not-are_in_order.false) c.append_new.new.state
+    (rw rest at c.in_ok-append_new.ensures.replaced) c.commit.new.state may has ok) c.commit.ensures.may c.commit.ensures.has
+    c.commit.ensures.ok
 
-pub returns-clause-accepted : goal.returns-clause-accepted
-returns-clause-accepted g c =
-    let place = c.in-Some.ensures.place in
-    let rest = slice_rest c.in-Some.place c.args.entries.now in
-    rw (← place) (rw rest at c.append_new.ensures.accepted)
-
-pub returns-clause-left : goal.returns-clause-left
-returns-clause-left g c =
-    let place = c.in-Some.ensures.place in
-    let rest = slice_rest c.in-Some.place c.args.entries.now in
-    rw (← place) (rw rest at c.append_new.ensures.left)
-
-pub returns-clause-may : goal.returns-clause-may
-returns-clause-may g c =
-    let place = c.in-Some.ensures.place in
-    let rest = slice_rest c.in-Some.place c.args.entries.now in
-    rw (← place) (rw rest at c.append_new.ensures.may)
-
-pub returns-clause-reason : goal.returns-clause-reason
-returns-clause-reason g c =
-    let s = c.args.state.now in
-    let es = c.args.entries.now in
-    let rest = slice_rest c.in-Some.place es in
-    IfErr-weaker c.append_new.result _ _
-    (λ e h. take_refused g.C.PartialEq.eq g.C.Ord.cmp c.args.prev es s c.args.committed c.in-Some.place e c.in-Some.ensures.place h)
-    (rw rest at c.append_new.ensures.reason)
+pub returns-clause-rest : goal.returns-clause-rest
+returns-clause-rest g c =
+    take_rest c.args.state.now c.append_new.new.state c.commit.new.state c.in_ok-append_new.ensures.rest c.commit.ensures.rest

@@ -1,17 +1,25 @@
-use Rattle.std.proofs.Common.{sym, ◌∙◌, ◌≡◌, true, Some}
-use Rattle.raft_base.specs.LogId.{index_of}
-use Rattle.raft_base.specs.LogIndex.{index_lt}
+use Rattle.std.proofs.Common.{refl, sym, ◌∙◌}
 use Rattle.raft_state.proofs.lemmas.log_id_list.ExtendLemmas.{is_key_list}
 use Rattle.raft_state.proofs.lemmas.log_id_list.FrontLemmas.{from_first}
 use Rattle.raft_state.specs.log_id_list.FullLog.{first_index, full_log}
-use Rattle.raft_state.specs.log_id_list.LogReads.{last_id}
-use Rattle.raft_handlers.proofs.EntryLemmas.{front_whole}
+use Rattle.raft_handlers.proofs.lemmas.CutLemmas.{ends_cut, truncated_cut}
 use Rattle.raft_handlers.proofs.log.cut.Goals as goal
 
-pub returns-then-ends-clause-log : goal.returns-then-ends-clause-log
-returns-then-ends-clause-log g c =
+pub returns-then-ends_before-clause-cut : goal.returns-then-ends_before-clause-cut
+returns-then-ends_before-clause-cut g c =
     let ks = c.args.state.now.log_ids in
     let canonical = rw c.key_log_ids-keys.ensures.keys at c.key_log_ids-keys.ensures.canonical in
     let row = from_first g.C.Ord.cmp ks (is_key_list g.C.Ord.cmp ks canonical) in
-    let below : index_lt (index_of (last_id (full_log ks))) (Some c.args.since) ≡ true = sym c.ends_before-ends.ensures ∙ c.if-ends.true in
-    sym (front_whole (first_index (full_log ks)) c.args.since (full_log ks) row below)
+    ends_cut _ (first_index (full_log ks)) c.args.since c.args.state.now row (sym c.ends_before.ensures ∙ c.if-ends_before.true)
+
+pub returns-clause-cut : goal.returns-clause-cut
+returns-clause-cut g c =
+    truncated_cut _ c.args.since c.args.state.now c.truncate_log.new.self (sym c.ends_before.ensures ∙ c.if-ends_before.false)
+    (sym c.can_truncate_log.ensures ∙ c.if-not-can_truncate_log.false) c.in_ok-truncate_log.ensures.log c.in_ok-truncate_log.ensures.ok
+
+pub returns-then-not-can_truncate_log-clause-refused : goal.returns-then-not-can_truncate_log-clause-refused
+returns-then-not-can_truncate_log-clause-refused g c =
+    rw (
+      sym c.ends_before.ensures ∙ c.if-ends_before.false,
+      sym c.can_truncate_log.ensures ∙ c.if-not-can_truncate_log.true,
+    ) refl

@@ -65,9 +65,9 @@ returns-clause-snapshot g c = elim c.if-is_some.branch [
       c.in_ok-state.ensures.new own.4 w.commit.new.self vote w.promise-promised.result w.promise-promised.ensures.answer
       w.promise-promised.ensures.taken c.args.snapshot.now.last_log_id some in
       let there = some_there c.args.snapshot.now.last_log_id some in
-      rw w.state-is (alone_installed g.NID.PartialEq.eq g.N.PartialEq.eq g.L.PartialEq.eq g.L.Committed.Ord.cmp
-      g.L.Committed.PartialEq.eq c.args.snapshot.now w.promise-promised.new.self w.install.new.state there.0 there.1
-      (rw is c.in_ok-state.ensures.new.log) (w.in_ok-install.ensures.installed past))
+      rw w.state-is (alone_installed g.NID.PartialEq.eq g.N.PartialEq.eq g.L.PartialEq.eq _
+      c.args.snapshot.now w.promise-promised.new.self w.install.new.state there.0 there.1
+      (rw is c.in_ok-state.ensures.new.log) (w.in_ok-install.ensures.installs.installed past))
   | else-is_some w ↦ rw w.state-is (alone_new g.NID.PartialEq.eq g.N.PartialEq.eq c.args.snapshot.now c.in_ok-state.state
       (none_there c.args.snapshot.now.last_log_id (sym c.is_some.ensures ∙ w.if-is_some.false)) c.in_ok-state.ensures.new)
 ]

@@ -8,13 +8,16 @@ use Rattle.raft_members.specs.membership.Members.{members_of}
 use Rattle.raft_members.specs.membership.Stored.{log_id_of}
 use Rattle.raft_members.specs.membership.Valid.{IsValid}
 use Rattle.raft_handlers.specs.Start.{first_log_id}
-use Rattle.raft_handlers.proofs.lemmas.StartLemmas.{comes_first, if_no_err, is_empty, only_one}
+use Rattle.raft_handlers.proofs.lemmas.StartLemmas.{comes_first, if_no_err, is_empty, not_decided, only_one, some_config}
 use Rattle.raft_handlers.proofs.start.start_cluster.Goals as goal
 
-pub returns-clause-valid : goal.returns-clause-valid
-returns-clause-valid g c =
-    if_no_err (IsValid g.NID.PartialEq.eq (members_of g.NID.Ord.cmp c.args.membership)) c.ensure_valid.result
-    (sym c.is_err.ensures.value ∙ c.if-is_err.false) c.ensure_valid.ensures.valid
+pub returns-clause-decides : goal.returns-clause-decides
+returns-clause-decides g c = record {
+  configs = some_config _ c.as_slice.result.now c.args.membership.configs (rw (← c.as_slice.ensures.value) at c.get_joint_config.ensures)
+      (sym c.is_empty.ensures ∙ c.if-is_empty.false);
+  valid = if_no_err (IsValid g.NID.PartialEq.eq (members_of g.NID.Ord.cmp c.args.membership)) c.ensure_valid.result
+      (sym c.is_err.ensures.value ∙ c.if-is_err.false) c.ensure_valid.ensures.valid;
+}
 
 pub returns-then-not-can_append_entries-clause-refused : goal.returns-then-not-can_append_entries-clause-refused
 returns-then-not-can_append_entries-clause-refused g c =
@@ -32,8 +35,8 @@ returns-then-not-can_append_entries-clause-refused g c =
     comes_first g.L.Committed.Ord.cmp (g.L.LeaderIdentity.committed (vote_of s).leader_id) (log_id_of s.membership_state.effective)
     (rw (items, empty, own) at may)
 
-pub returns-clause-log : goal.returns-clause-log
-returns-clause-log g c =
+pub returns-clause-starts : goal.returns-clause-starts
+returns-clause-starts g c =
     let s = c.args.state.now in
     let entry : EntryOf g.row.L-Committed.Denot g.row.NID.Denot g.row.N.Denot g.row.D.Denot =
     record { log_id = c.new.result; payload = Stores c.args.membership } in
@@ -44,5 +47,13 @@ returns-clause-log g c =
     let none = (or_parts _ _ (sym c.is_initialized.ensures.2 ∙ c.if-is_initialized.false)).0 in
     let empty = is_empty (full_log s.log_ids) none in
     let own : c.new.result ≡ first_log_id (g.L.LeaderIdentity.committed (vote_of s).leader_id) = search rules in
+    let first = first_log_id (g.L.LeaderIdentity.committed (vote_of s).leader_id) in
+    let log : full_log c.append_entries.new.self.log_ids ≡ first ∷ [] =
     rw (← own) (only_one g.L.Committed.PartialEq.eq (full_log c.append_entries.new.self.log_ids) c.new.result
-    (rw (items, empty) at c.in_ok-append_entries.ensures.log) (rw items at c.in_ok-append_entries.ensures.last))
+    (rw (items, empty) at c.in_ok-append_entries.ensures.log) (rw items at c.in_ok-append_entries.ensures.last)) in
+    record { entry = search (rules, own); log = log; effective = search (rules, own) }
+
+pub returns-then-is_empty-clause-refused : goal.returns-then-is_empty-clause-refused
+returns-then-is_empty-clause-refused g c = λ decides.
+    not_decided _ c.as_slice.result.now c.args.membership.configs (rw (← c.as_slice.ensures.value) at c.get_joint_config.ensures)
+    (sym c.is_empty.ensures ∙ c.if-is_empty.true) decides.configs
