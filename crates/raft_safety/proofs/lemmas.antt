@@ -15,6 +15,7 @@ pub mod CheckedLogLemmas
 pub mod CheckedServerLemmas
 pub mod CheckedLeaderLemmas
 pub mod CheckerLemmas
+pub mod StateLemmas
 pub mod CheckerStepLemmas
 pub mod CheckerCodeLemmas
 pub mod RankLemmas
@@ -22,3 +23,6 @@ pub mod ScenarioLemmas
 pub mod MembershipsLemmas
 pub mod MergeLemmas
 pub mod LoopLemmas
+pub mod LogTreeLemmas
+pub mod CommonLemmas
+pub mod ChildLemmas

@@ -1,5 +1,5 @@
 -- What the checker of recorded traces answers, and what it keeps of the events.
-use Rattle.std.specs.Prelude.{◌≡◌, ◌⊎◌, ◌<◌, ℕ, Bool, true, false, Option, Some, None, Result, List, [], ◌∷◌, length, take, get_or}
+use Rattle.std.specs.Prelude.{◌≡◌, ◌⊎◌, ◌<◌, ℕ, Bool, true, false, Option, Some, None, Result, List, [], ◌∷◌, length, take, get_or, is_some}
 use Rattle.std.specs.List.{list_any}
 use Rattle.std.specs.Result.{MatchResult}
 use Rattle.raft_safety.specs.Log.{Entry}
@@ -20,10 +20,10 @@ use Rattle.raft_safety.specs.Trace.{
   is_known_committed,
   are_allowed,
 }
-use Rattle.raft_safety.specs.Inner.CheckerState.{config_in, knows}
+use Rattle.raft_safety.specs.Inner.CheckerState.{LeaderState, ServerState, config_in, knows}
+use Rattle.raft_safety.specs.Inner.Kept.{HaveLogs, Parts, leaders_in, servers_in}
+use Rattle.raft_safety.specs.Inner.Logs.{AreLogs}
 use Rattle.raft_safety.specs.Inner.Seen.{SeesServers, SeesLeaders}
-use Rattle.raft_safety.specs.declared.checker.server.Server.{Server}
-use Rattle.raft_safety.specs.declared.checker.leader.Leader.{Leader}
 use Rattle.raft_safety.specs.declared.checker.violation.Violation.{Violation}
 use Rattle.raft_safety.specs.declared.checker.violation.Violation.TheVariants.{OutOfMemory, Rule as BreaksRule}
 use Rattle.raft_safety.specs.declared.checker.Checker.{Checker}
@@ -45,11 +45,18 @@ use Rattle.raft_safety.specs.declared.rule.Rule.TheVariants.{InitialConfig}
 
 module _ {T ID D : Type 0} (k : Tests T ID D (Option D)) where
   -- what the checker keeps is what the events say, and each of them was allowed
-  pub record HasSeen (es : List (TraceEvent T ID D)) (servers : List (Server T ID D)) (leaders : List (Leader T ID D)) : Type 0 where
+  pub record HasSeen (es : List (TraceEvent T ID D)) (servers : List (ServerState T ID D))
+      (leaders : List (LeaderState T ID D)) : Type 0 where
     pub allowed : are_allowed k es ≡ true
     pub see_servers : SeesServers k es servers
     pub see_leaders : SeesLeaders k es leaders
     pub see_commits : (r : ℕ) (p : List (Entry T D)) → is_known_committed k r p es ≡ list_any (knows k.rank (same_entry k) r p) leaders
+
+  -- the same of the parts of a checker, in which each log is kept once
+  pub record Keeps (es : List (TraceEvent T ID D)) (p : Parts T ID D) : Type 0 where
+    pub are_logs : AreLogs (λ d. is_some (k.config_of d)) p.logs
+    pub have_logs : HaveLogs p
+    pub seen : HasSeen es (servers_in p) (leaders_in p)
 
 -- what the checker compares by: ranks and equality, as the types have them, and the configs, as
 -- clauses have them: `T.Term`, `N.PartialEq`, `D.PartialEq` and `C.Configs`. Each config is named by
@@ -83,6 +90,10 @@ event_of (RecordedApply s t c n) = Applied s t c n
 abbrev pub configs_of : {T ID D C : Type 0} → Checker T ID D C → C
 configs_of c = c.configs
 
+-- what a checker keeps
+abbrev pub kept_by : {T ID D C : Type 0} → Checker T ID D C → Parts T ID D
+kept_by c = record { logs = c.logs; servers = c.servers.items; leaders = c.leaders.items }
+
 -- an event is refused for the rule that it breaks, or for memory
 abbrev pub IsRefusal : Option Rule → Violation → Type 0
 IsRefusal broken (BreaksRule r) = broken ≡ Some r
@@ -90,24 +101,23 @@ IsRefusal broken OutOfMemory = Unit {0}
 
 module _ {T ID D : Type 0} (k : Tests T ID D (Option D)) where
   -- an event is recorded exactly if it is allowed. If it is refused, nothing has changed
-  abbrev pub Answers : TraceEvent T ID D → List (Server T ID D) → List (Leader T ID D)
-      → List (Server T ID D) → List (Leader T ID D) → Result (Unit {0}) Violation → Type 0
-  Answers e servers leaders new_servers new_leaders result =
-      AreExact k → (es : List (TraceEvent T ID D)) → HasSeen k es servers leaders
+  abbrev pub Answers : TraceEvent T ID D → Parts T ID D → Parts T ID D
+      → Result (Unit {0}) Violation → Type 0
+  Answers e old new result =
+      AreExact k → (es : List (TraceEvent T ID D)) → Keeps k es old
       → MatchResult result
-      (λ _. (broken_rule k e es ≡ None) × HasSeen k (e ∷ es) new_servers new_leaders)
-      (λ v. IsRefusal (broken_rule k e es) v × HasSeen k es new_servers new_leaders)
+      (λ _. (broken_rule k e es ≡ None) × Keeps k (e ∷ es) new)
+      (λ v. IsRefusal (broken_rule k e es) v × Keeps k es new)
 
   -- a checker answers so, and keeps what the events say
   abbrev pub Records : {C : Type 0} → TraceEvent T ID D → Checker T ID D C → Checker T ID D C
       → Result (Unit {0}) Violation → Type 0
-  Records e old new result =
-      Answers e old.servers.items old.leaders.items new.servers.items new.leaders.items result
+  Records e old new result = Answers e (kept_by old) (kept_by new) result
 
   -- a checker begins with no event, exactly if quorums of the initial config intersect
   abbrev pub Begins : {C : Type 0} → Result (Checker T ID D C) Violation → Type 0
   Begins result =
-      MatchResult result (λ c. HasSeen k [] c.servers.items c.leaders.items)
+      MatchResult result (λ c. Keeps k [] (kept_by c))
       (λ v. (k.intersect k.initial k.initial ≡ false) × (v ≡ BreaksRule InitialConfig))
 
 -- a trace after which recorded events come, in their order

@@ -1,3 +1,6 @@
 -- Definitions that only private functions and proofs use.
 pub mod CheckerState
+pub mod Logs
+pub mod Nodes
+pub mod Kept
 pub mod Seen

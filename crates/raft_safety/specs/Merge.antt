@@ -27,7 +27,7 @@ use Rattle.std.specs.Prelude.{
 use Rattle.std.specs.Result.{MatchResult}
 use Rattle.std.specs.Global.{Vec}
 use Rattle.raft_safety.specs.Trace.{TraceEvent, Tests, AreExact, IsSafeTrace, TermsHaveRanks, are_allowed, broken_rule}
-use Rattle.raft_safety.specs.Checker.{HasSeen, event_of}
+use Rattle.raft_safety.specs.Checker.{Keeps, event_of, kept_by}
 use Rattle.raft_safety.specs.declared.checker.Checker.{Checker}
 use Rattle.raft_safety.specs.declared.checker.violation.Violation.{Violation}
 use Rattle.raft_safety.specs.declared.checker.violation.Violation.TheVariants.{OutOfMemory, Rule as BreaksRule}
@@ -132,11 +132,11 @@ module _ {T ID D : Type 0} (k : Tests T ID D (Option D))
   abbrev pub RecordsNext : {C : Type 0} → List ℕ → Checker T ID D C → List ℕ → Checker T ID D C
       → Result Bool (ℕ × Violation) → Type 0
   RecordsNext placed old new_placed new result =
-      AreExact k → (es : List (TraceEvent T ID D)) → HasSeen k es old.servers.items old.leaders.items
+      AreExact k → (es : List (TraceEvent T ID D)) → Keeps k es (kept_by old)
       → MatchResult result
       (λ more. (more ≡ true → (next : IsPlaced lists placed new_placed)
-      × HasSeen k (event_of next.event ∷ es) new.servers.items new.leaders.items)
-      × (more ≡ false → HasSeen k es new.servers.items new.leaders.items))
+      × Keeps k (event_of next.event ∷ es) (kept_by new))
+      × (more ≡ false → Keeps k es (kept_by new)))
       (λ r. ((r.1 ≡ OutOfMemory)
       × (n : ℕ) × (e : RecordedEvent T ID D) × IsNext lists new_placed r.0 n e)
       ⊎ AreRefused new_placed es r.0 r.1)

@@ -1,14 +1,18 @@
 //! The checker of recorded events: whether each event was allowed by what came before.
-ghost use Rattle.std.specs.Prelude.{◌≡◌, ◌<◌, ◌&&◌, IfOk, IfSome, OnErr, length};
+ghost use Rattle.std.specs.Prelude.{◌≡◌, ◌<◌, ◌&&◌, IfOk, IfSome, OnErr, length, map};
+ghost use Rattle.std.specs.VecDeque.{deque_len};
 ghost use Rattle.std.specs.List.{list_any, position};
-ghost use Rattle.raft_safety.specs.Inner.CheckerState.{HasPlace, knows, same_entry_by};
-ghost use Rattle.raft_safety.specs.Checker.{Answers, Begins, Records, configs_of, event_of, tests_of};
+ghost use Rattle.raft_safety.specs.Inner.CheckerState.{knows, same_entry_by};
+ghost use Rattle.raft_safety.specs.Inner.Kept.{IsAt, leader_in};
+ghost use Rattle.raft_safety.specs.Inner.Logs.{AreDistinct, IsExact, log_at};
+ghost use Rattle.raft_safety.specs.Checker.{Answers, Begins, Records, configs_of, event_of, kept_by, tests_of};
 ghost use Rattle.raft_safety.specs.Trace.{Campaigned, Granted, Appended, Acked, Restarted, Wrote, Committed, Applied};
 
 mod broken;
 mod configs;
 mod leader;
 mod logs;
+mod node;
 mod server;
 mod violation;
 
@@ -17,13 +21,15 @@ use crate::event::Event;
 use crate::rule::Rule;
 use crate::term::Term;
 use broken::{
-    ack_rule, append_rule, apply_rule, commit_rule, grant_rule, knows, restart_rule, write_rule,
+    ack_rule, append_rule, apply_rule, commit_rule, grant_rule, knows, next_log, restart_rule,
+    write_rule,
 };
 pub use configs::Configs;
 use leader::Leader;
-use logs::{effective_config, first};
+use logs::Logs;
 use server::Server;
 use std::alloc::{AllocError, Global};
+use std::collections::VecDeque;
 pub use violation::Violation;
 
 /// Checks recorded events one by one.
@@ -34,9 +40,11 @@ pub use violation::Violation;
 #[derive(Drop)]
 pub struct Checker<T, N, D, C> {
     configs: C,
-    servers: Vec<Server<T, N, D>>,
+    /// The logs of servers and leaders. Each entry is kept once.
+    logs: Logs<T, D>,
+    servers: Vec<Server<N>>,
     /// The newest leader is first, because most events are about it.
-    leaders: Vec<Leader<T, N, D>>,
+    leaders: VecDeque<Leader<T, N>>,
     alloc: Global,
 }
 
@@ -55,8 +63,9 @@ impl<T: Term, N: Copy + Eq, D: Copy + Eq, C: Configs<N, D> + Drop> Checker<T, N,
         }
         Ok(Checker {
             configs,
+            logs: Logs::new(alloc),
             servers: Vec::new(alloc),
-            leaders: Vec::new(alloc),
+            leaders: VecDeque::new(alloc),
             alloc,
         })
     }
@@ -119,24 +128,34 @@ impl<T: Term, N: Copy + Eq, D: Copy + Eq, C: Configs<N, D> + Drop> Checker<T, N,
         ensures configs { self.new.configs ≡ self.old.configs }
         ensures answer { Answers
             (tests_of T.Term N.PartialEq D.PartialEq C.Configs self.old.configs)
-            (Campaigned server term) self.old.servers.items self.old.leaders.items
-            self.new.servers.items self.new.leaders.items result }
+            (Campaigned server term) (kept_by self.old) (kept_by self.new) result }
     {
-        match leader_at(&self.leaders, term, server) {
-            Some(_) => return Err(Violation::Rule(Rule::CampaignedTwice)),
-            None => {}
-        }
         let i = server_at(self.alloc, &mut self.servers, server)?;
         let rank = term.rank();
+        // A server has reached each term in which it has campaigned. So a campaign in a later term is
+        // no second one, and no leader has to be searched for.
         if rank <= self.servers[i].term {
-            return Err(Violation::Rule(Rule::PassedTerm));
+            match leader_at(&self.leaders, term, server) {
+                Some(_) => return Err(Violation::Rule(Rule::CampaignedTwice)),
+                None => return Err(Violation::Rule(Rule::PassedTerm)),
+            }
         }
         let voter = &mut self.servers[i];
+        let len = self.logs.len(voter.log);
+        let config = self.logs.config_content(voter.log);
         self.leaders.reserve(1)?;
         voter.make_room()?;
-        let leader = Leader::new(self.alloc, &self.configs, term, server, &voter.log)?;
-        voter.reach(rank);
-        self.leaders.insert(0, leader).unwrap();
+        let leader = Leader::new(
+            self.alloc,
+            &self.configs,
+            config,
+            term,
+            server,
+            voter.log,
+            len,
+        )?;
+        voter.reach(rank, len);
+        self.leaders.push_front_reserved(leader);
         Ok(())
     }
 
@@ -145,8 +164,7 @@ impl<T: Term, N: Copy + Eq, D: Copy + Eq, C: Configs<N, D> + Drop> Checker<T, N,
         ensures configs { self.new.configs ≡ self.old.configs }
         ensures answer { Answers
             (tests_of T.Term N.PartialEq D.PartialEq C.Configs self.old.configs)
-            (Granted server term candidate) self.old.servers.items self.old.leaders.items
-            self.new.servers.items self.new.leaders.items result }
+            (Granted server term candidate) (kept_by self.old) (kept_by self.new) result }
     {
         let j = match leader_at(&self.leaders, term, candidate) {
             Some(j) => j,
@@ -154,7 +172,14 @@ impl<T: Term, N: Copy + Eq, D: Copy + Eq, C: Configs<N, D> + Drop> Checker<T, N,
         };
         let i = server_at(self.alloc, &mut self.servers, server)?;
         let rank = term.rank();
-        match grant_rule(&self.servers[i], &self.leaders[j], server, rank, candidate) {
+        match grant_rule(
+            &self.logs,
+            &self.servers[i],
+            &self.leaders[j],
+            server,
+            rank,
+            candidate,
+        ) {
             Some(rule) => return Err(Violation::Rule(rule)),
             None => {}
         }
@@ -167,8 +192,12 @@ impl<T: Term, N: Copy + Eq, D: Copy + Eq, C: Configs<N, D> + Drop> Checker<T, N,
             return Ok(());
         }
         voter.make_room()?;
-        self.leaders[j].vote(&self.configs, server)?;
-        voter.reach(rank);
+        let leader = &mut self.leaders[j];
+        let config = self
+            .logs
+            .config_content(self.logs.first(leader.log, leader.start));
+        leader.vote(&self.configs, config, server)?;
+        voter.reach(rank, self.logs.len(voter.log));
         Ok(())
     }
 
@@ -184,8 +213,8 @@ impl<T: Term, N: Copy + Eq, D: Copy + Eq, C: Configs<N, D> + Drop> Checker<T, N,
         ensures configs { self.new.configs ≡ self.old.configs }
         ensures answer { Answers
             (tests_of T.Term N.PartialEq D.PartialEq C.Configs self.old.configs)
-            (Appended server term leader keep entries.now) self.old.servers.items
-            self.old.leaders.items self.new.servers.items self.new.leaders.items result }
+            (Appended server term leader keep entries.now) (kept_by self.old)
+            (kept_by self.new) result }
     {
         let j = match leader_at(&self.leaders, term, leader) {
             Some(j) => j,
@@ -193,11 +222,22 @@ impl<T: Term, N: Copy + Eq, D: Copy + Eq, C: Configs<N, D> + Drop> Checker<T, N,
         };
         let i = server_at(self.alloc, &mut self.servers, server)?;
         let rank = term.rank();
-        match append_rule(&self.servers[i], &self.leaders[j], rank, keep, entries) {
+        match append_rule(
+            &self.logs,
+            &self.servers[i],
+            &self.leaders[j],
+            rank,
+            keep,
+            entries,
+        ) {
             Some(rule) => return Err(Violation::Rule(rule)),
             None => {}
         }
-        self.servers[i].append(rank, keep, entries)?;
+        let follower = &mut self.servers[i];
+        let len = self.logs.len(follower.log);
+        let log = next_log(&self.logs, follower, &self.leaders[j], keep, entries);
+        let same = keep + self.logs.common_with(follower.log, keep, entries);
+        follower.append(rank, len, log, same)?;
         Ok(())
     }
 
@@ -206,8 +246,7 @@ impl<T: Term, N: Copy + Eq, D: Copy + Eq, C: Configs<N, D> + Drop> Checker<T, N,
         ensures configs { self.new.configs ≡ self.old.configs }
         ensures answer { Answers
             (tests_of T.Term N.PartialEq D.PartialEq C.Configs self.old.configs)
-            (Acked server term leader len) self.old.servers.items self.old.leaders.items
-            self.new.servers.items self.new.leaders.items result }
+            (Acked server term leader len) (kept_by self.old) (kept_by self.new) result }
     {
         let j = match leader_at(&self.leaders, term, leader) {
             Some(j) => j,
@@ -215,7 +254,7 @@ impl<T: Term, N: Copy + Eq, D: Copy + Eq, C: Configs<N, D> + Drop> Checker<T, N,
         };
         let i = server_at(self.alloc, &mut self.servers, server)?;
         let rank = term.rank();
-        match ack_rule(&self.servers[i], &self.leaders[j], rank, len) {
+        match ack_rule(&self.logs, &self.servers[i], &self.leaders[j], rank, len) {
             Some(rule) => return Err(Violation::Rule(rule)),
             None => {}
         }
@@ -229,15 +268,15 @@ impl<T: Term, N: Copy + Eq, D: Copy + Eq, C: Configs<N, D> + Drop> Checker<T, N,
         ensures configs { self.new.configs ≡ self.old.configs }
         ensures answer { Answers
             (tests_of T.Term N.PartialEq D.PartialEq C.Configs self.old.configs)
-            (Restarted server len) self.old.servers.items self.old.leaders.items
-            self.new.servers.items self.new.leaders.items result }
+            (Restarted server len) (kept_by self.old) (kept_by self.new) result }
     {
         let i = server_at(self.alloc, &mut self.servers, server)?;
-        match restart_rule(&self.servers[i], len) {
+        match restart_rule(&self.logs, &self.servers[i], len) {
             Some(rule) => return Err(Violation::Rule(rule)),
             None => {}
         }
-        self.servers[i].restart(len);
+        let restarted = &mut self.servers[i];
+        restarted.restart(self.logs.first(restarted.log, len), len);
         Ok(())
     }
 
@@ -246,18 +285,19 @@ impl<T: Term, N: Copy + Eq, D: Copy + Eq, C: Configs<N, D> + Drop> Checker<T, N,
         ensures configs { self.new.configs ≡ self.old.configs }
         ensures answer { Answers
             (tests_of T.Term N.PartialEq D.PartialEq C.Configs self.old.configs)
-            (Wrote leader term entry) self.old.servers.items self.old.leaders.items
-            self.new.servers.items self.new.leaders.items result }
+            (Wrote leader term entry) (kept_by self.old) (kept_by self.new) result }
     {
         let j = match leader_at(&self.leaders, term, leader) {
             Some(j) => j,
             None => return Err(Violation::Rule(Rule::NotElected)),
         };
-        match write_rule(&self.configs, &self.leaders[j], term, entry) {
+        match write_rule(&self.configs, &self.logs, &self.leaders[j], term, entry) {
             Some(rule) => return Err(Violation::Rule(rule)),
             None => {}
         }
-        self.leaders[j].write(entry)?;
+        let is_config = self.configs.holds_config(entry.content);
+        let log = self.logs.child(self.leaders[j].log, entry, is_config)?;
+        self.leaders[j].write(log);
         Ok(())
     }
 
@@ -272,19 +312,20 @@ impl<T: Term, N: Copy + Eq, D: Copy + Eq, C: Configs<N, D> + Drop> Checker<T, N,
         ensures configs { self.new.configs ≡ self.old.configs }
         ensures answer { Answers
             (tests_of T.Term N.PartialEq D.PartialEq C.Configs self.old.configs)
-            (Committed leader term len counted_at) self.old.servers.items self.old.leaders.items
-            self.new.servers.items self.new.leaders.items result }
+            (Committed leader term len counted_at) (kept_by self.old) (kept_by self.new) result }
     {
         let j = match leader_at(&self.leaders, term, leader) {
             Some(j) => j,
             None => return Err(Violation::Rule(Rule::NotElected)),
         };
-        match commit_rule(&self.leaders[j], len, counted_at) {
+        match commit_rule(&self.logs, &self.leaders[j], len, counted_at) {
             Some(rule) => return Err(Violation::Rule(rule)),
             None => {}
         }
         let servers = self.leaders[j].acked_to(self.alloc, len)?;
-        let config = effective_config(&self.configs, first(&self.leaders[j].log, counted_at));
+        let config = self
+            .logs
+            .config_content(self.logs.first(self.leaders[j].log, counted_at));
         if !self.configs.is_quorum(config, &servers) {
             return Err(Violation::Rule(Rule::NoQuorum));
         }
@@ -297,20 +338,19 @@ impl<T: Term, N: Copy + Eq, D: Copy + Eq, C: Configs<N, D> + Drop> Checker<T, N,
         ensures configs { self.new.configs ≡ self.old.configs }
         ensures answer { Answers
             (tests_of T.Term N.PartialEq D.PartialEq C.Configs self.old.configs)
-            (Applied server term leader len) self.old.servers.items self.old.leaders.items
-            self.new.servers.items self.new.leaders.items result }
+            (Applied server term leader len) (kept_by self.old) (kept_by self.new) result }
     {
         let j = match leader_at(&self.leaders, term, leader) {
             Some(j) => j,
             None => return Err(Violation::Rule(Rule::NotElected)),
         };
         let i = server_at(self.alloc, &mut self.servers, server)?;
-        match apply_rule(&self.servers[i], &self.leaders[j], len) {
+        match apply_rule(&self.logs, &self.servers[i], &self.leaders[j], len) {
             Some(rule) => return Err(Violation::Rule(rule)),
             None => {}
         }
-        let prefix = first(&self.leaders[j].log, len);
-        if !any_knows(&self.leaders, term.rank(), prefix) {
+        let prefix = self.logs.first(self.leaders[j].log, len);
+        if !any_knows(&self.logs, &self.leaders, term.rank(), prefix) {
             return Err(Violation::Rule(Rule::NotCommitted));
         }
         Ok(())
@@ -318,15 +358,16 @@ impl<T: Term, N: Copy + Eq, D: Copy + Eq, C: Configs<N, D> + Drop> Checker<T, N,
 }
 
 /// Returns the position of a candidate or leader of a term, if it has campaigned.
-fn leader_at<T: Term, N: Copy + Eq, D: Copy + Eq>(
-    leaders: &[Leader<T, N, D>],
+fn leader_at<T: Term, N: Copy + Eq>(
+    leaders: &VecDeque<Leader<T, N>>,
     term: T,
     id: N,
 ) -> Option<usize>
-    ensures place { result ≡ position (λ l. T.eq l.term term && N.eq l.id id) leaders.now }
-    ensures within { IfSome result (λ j. j < length leaders.now) }
+    ensures place { result ≡ position (λ l. T.eq l.term term && N.eq l.id id) leaders.now.items }
+    ensures within { IfSome result (λ j. j < deque_len leaders.now) }
 {
-    for (j, leader) in leaders.iter().enumerate() {
+    for j in 0..leaders.len() {
+        let leader = &leaders[j];
         if leader.term == term && leader.id == id {
             return Some(j);
         }
@@ -336,15 +377,17 @@ fn leader_at<T: Term, N: Copy + Eq, D: Copy + Eq>(
 
 /// Whether a leader of a term of at most this rank has committed these entries.
 fn any_knows<T: Term, N: Copy + Eq, D: Copy + Eq>(
-    leaders: &[Leader<T, N, D>],
+    logs: &Logs<T, D>,
+    leaders: &VecDeque<Leader<T, N>>,
     rank: u128,
-    prefix: &[Entry<T, D>],
+    prefix: usize,
 ) -> bool
-    ensures { result ≡ list_any (knows T.rank
-        (same_entry_by T.eq D.eq) rank prefix.now) leaders.now }
+    ensures { IsExact (same_entry_by T.eq D.eq) → AreDistinct logs.now → result
+        ≡ list_any (knows T.rank (same_entry_by T.eq D.eq) rank (log_at logs.now prefix))
+        (map (leader_in logs.now) leaders.now.items) }
 {
-    for leader in leaders {
-        if knows(leader, rank, prefix) {
+    for j in 0..leaders.len() {
+        if knows(logs, &leaders[j], rank, prefix) {
             return true;
         }
     }
@@ -356,12 +399,12 @@ fn any_knows<T: Term, N: Copy + Eq, D: Copy + Eq>(
 /// # Errors
 ///
 /// Out of memory. The servers are then as they were.
-fn server_at<T: Term, N: Copy + Eq, D: Copy + Eq>(
+fn server_at<N: Copy + Eq>(
     alloc: Global,
-    servers: &mut Vec<Server<T, N, D>>,
+    servers: &mut Vec<Server<N>>,
     id: N,
 ) -> Result<usize, AllocError>
-    ensures at { IfOk result (λ i. HasPlace (λ s. N.eq s.id id) id servers.old.items
+    ensures at { IfOk result (λ i. IsAt (λ s. N.eq s.id id) id servers.old.items
         servers.new.items i) }
     ensures within { IfOk result (λ i. i < length servers.new.items) }
     ensures err { OnErr result (servers.new.items ≡ servers.old.items) }

@@ -24,26 +24,28 @@ const EVENTS: [(&str, usize); 8] = [
     ("Checker::record, Granted", 2),
     ("Checker::record, Wrote", 3),
     ("Checker::record, Appended", 4),
-    ("Checker::record, Acked", 5),
-    ("Checker::record, Committed", 8),
-    ("Checker::record, a later Campaigned", 9),
+    ("Checker::record, Acked", 6),
+    ("Checker::record, Committed", 9),
+    ("Checker::record, a later Campaigned", 10),
 ];
 
 /// The position of the last event of `history`, which does not allocate.
-const LAST: usize = 10;
+const LAST: usize = 11;
 
-/// Server 3 restarts. Server 0 is elected in term 1 by server 1, and both have its entry, which it
-/// commits. Server 2 campaigns in term 2. Server 0 applies the entry.
+/// Server 3 restarts. Server 0 is elected in term 1 by server 1. Servers 2, 0 and 1 take its entry,
+/// which it commits. Server 2 campaigns in term 2. Server 0 applies the entry.
 fn history(alloc: Global) -> Result<Vec<Recorded>, AllocError> {
-    let (taken, shared) = both(
+    let own = both(
         appended(alloc, (0, 1, 0), 0, (1, 10)),
         appended(alloc, (1, 1, 0), 0, (1, 10)),
-    )?;
+    );
+    let (first, (taken, shared)) = both(appended(alloc, (2, 1, 0), 0, (1, 10)), own)?;
     Ok(vec![in alloc;
         restarted(3, 0),
         campaigned(0, 1),
         granted(1, 1, 0),
         wrote(0, 1, (1, 10)),
+        first,
         taken,
         acked(0, 1, 0, 1),
         shared,

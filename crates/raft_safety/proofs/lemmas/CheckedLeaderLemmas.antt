@@ -62,7 +62,7 @@ use Rattle.raft_safety.specs.Trace.{
   and_restart,
 }
 use Rattle.raft_safety.specs.Inner.Seen.{SeesLeader, SeesNoLeader, SeesLeaders, find_leader}
-use Rattle.raft_safety.specs.declared.checker.leader.Leader.{Leader}
+use Rattle.raft_safety.specs.Inner.CheckerState.{LeaderState}
 use Rattle.raft_safety.proofs.lemmas.TestLemmas.{leader_right}
 use Rattle.raft_safety.proofs.lemmas.CheckedServerLemmas.{place_of}
 
@@ -148,7 +148,7 @@ module _ {T ID D : Type 0} (k : Tests T ID D (Option D)) (exact : AreExact k) wh
         → is_config_committed k u d log new ≡ is_config_committed k u d log es
 
   pub stays : (es new : List (TraceEvent T ID D)) (u : T) (d : ID) → SameFor es new u d
-      → (o : Option (Leader T ID D)) → MatchOption o (SeesNoLeader k es u d) (SeesLeader k es u d)
+      → (o : Option (LeaderState T ID D)) → MatchOption o (SeesNoLeader k es u d) (SeesLeader k es u d)
       → MatchOption o (SeesNoLeader k new u d) (SeesLeader k new u d)
   stays es new u d same None sees = record {
     campaigned = same.campaigned ∙ sees.campaigned;
@@ -176,9 +176,9 @@ module _ {T ID D : Type 0} (k : Tests T ID D (Option D)) (exact : AreExact k) wh
       elected = λ i. same.voted d i && is_quorum_of_log k (same.candidate_log i) (λ v. same.voted v i)
 
   -- a leader is replaced, because other facts hold of it now
-  pub see_leader_set : (es new : List (TraceEvent T ID D)) (leaders : List (Leader T ID D)) (i : ℕ)
-      (l : Leader T ID D) (t : T) (c : ID)
-      → position (λ (x : Leader T ID D). same_leader k x.term x.id t c) leaders ≡ Some i
+  pub see_leader_set : (es new : List (TraceEvent T ID D)) (leaders : List (LeaderState T ID D)) (i : ℕ)
+      (l : LeaderState T ID D) (t : T) (c : ID)
+      → position (λ (x : LeaderState T ID D). same_leader k x.term x.id t c) leaders ≡ Some i
       → same_leader k l.term l.id t c ≡ true → SeesLeaders k es leaders
       → ((u : T) (d : ID) → same_leader k t c u d ≡ false → SameFor es new u d)
       → SeesLeader k new t c l → SeesLeaders k new (set leaders i l)
@@ -189,14 +189,14 @@ module _ {T ID D : Type 0} (k : Tests T ID D (Option D)) (exact : AreExact k) wh
           × (same_leader k (get_or leaders i l).term (get_or leaders i l).id t c ≡ true)
           × ((j : ℕ) → j < i
           → same_leader k (get_or leaders j l).term (get_or leaders j l).id t c ≡ false)
-      facts = position-Some (λ (x : Leader T ID D). same_leader k x.term x.id t c) leaders i l at_i
+      facts = position-Some (λ (x : LeaderState T ID D). same_leader k x.term x.id t c) leaders i l at_i
 
       here : find_leader k (set leaders i l) t c ≡ Some l
       here =
-          find-set (λ (x : Leader T ID D). same_leader k x.term x.id t c) leaders i l
-          (place_of (λ (x : Leader T ID D). same_leader k x.term x.id t c) leaders i at_i) facts.0 is_l
+          find-set (λ (x : LeaderState T ID D). same_leader k x.term x.id t c) leaders i l
+          (place_of (λ (x : LeaderState T ID D). same_leader k x.term x.id t c) leaders i at_i) facts.0 is_l
 
-      apart : (x : Leader T ID D) → same_leader k x.term x.id t c ≡ true
+      apart : (x : LeaderState T ID D) → same_leader k x.term x.id t c ≡ true
           → same_leader k t c u d ≡ false → same_leader k x.term x.id u d ≡ false
       apart x a b =
           let e = leader_right k exact x.term t x.id c a in
@@ -213,7 +213,7 @@ module _ {T ID D : Type 0} (k : Tests T ID D (Option D)) (exact : AreExact k) wh
           let q1 : c ≡ d = q.1 in
           let at_tc : MatchOption (find_leader k (set leaders i l) t c) (SeesNoLeader k new t c)
           (SeesLeader k new t c) =
-          subst (λ (o : Option (Leader T ID D)). MatchOption o (SeesNoLeader k new t c)
+          subst (λ (o : Option (LeaderState T ID D)). MatchOption o (SeesNoLeader k new t c)
           (SeesLeader k new t c)) (sym here) one in
           subst (λ (x : T). MatchOption (find_leader k (set leaders i l) x d) (SeesNoLeader k new x d)
           (SeesLeader k new x d)) q0
@@ -221,15 +221,15 @@ module _ {T ID D : Type 0} (k : Tests T ID D (Option D)) (exact : AreExact k) wh
           (SeesLeader k new t x)) q1 at_tc)
       go (inr e) =
           let there : find_leader k (set leaders i l) u d ≡ find_leader k leaders u d =
-          find_past (λ (x : Leader T ID D). same_leader k x.term x.id u d) leaders i l l
+          find_past (λ (x : LeaderState T ID D). same_leader k x.term x.id u d) leaders i l l
           (apart (get_or leaders i l) facts.1 e) (apart l is_l e) in
-          subst (λ (o : Option (Leader T ID D)). MatchOption o (SeesNoLeader k new u d)
+          subst (λ (o : Option (LeaderState T ID D)). MatchOption o (SeesNoLeader k new u d)
           (SeesLeader k new u d)) (sym there)
           (stays es new u d (others u d e) (find_leader k leaders u d) (sees u d))
 
   -- a candidate is added
-  pub see_leader_added : (es new : List (TraceEvent T ID D)) (leaders : List (Leader T ID D))
-      (l : Leader T ID D) (t : T) (c : ID) → same_leader k l.term l.id t c ≡ true
+  pub see_leader_added : (es new : List (TraceEvent T ID D)) (leaders : List (LeaderState T ID D))
+      (l : LeaderState T ID D) (t : T) (c : ID) → same_leader k l.term l.id t c ≡ true
       → SeesLeaders k es leaders
       → ((u : T) (d : ID) → same_leader k t c u d ≡ false → SameFor es new u d)
       → SeesLeader k new t c l → SeesLeaders k new (l ∷ leaders)

@@ -47,6 +47,8 @@ use Rattle.raft_safety.specs.Trace.{
   is_prefix,
   same_entry,
   has_kept,
+  has_voted,
+  same_leader,
   durable,
   and_append,
   and_restart,
@@ -54,9 +56,9 @@ use Rattle.raft_safety.specs.Trace.{
 use Rattle.raft_safety.specs.Inner.CheckerState.{common_len, kept_from, kept_after, at_most}
 use Rattle.raft_safety.specs.Inner.Seen.{SeesServer, SeesServers, kept_at, find_server}
 use Rattle.raft_safety.specs.declared.checker.server.Kept.{Kept}
-use Rattle.raft_safety.specs.declared.checker.server.Server.{Server}
+use Rattle.raft_safety.specs.Inner.CheckerState.{ServerState}
 use Rattle.raft_safety.proofs.lemmas.PrefixLemmas.{prefix_length}
-use Rattle.raft_safety.proofs.lemmas.TestLemmas.{prefix_right, entry_right, entry_itself}
+use Rattle.raft_safety.proofs.lemmas.TestLemmas.{or_cases, leader_right, prefix_right, entry_right, entry_itself}
 use Rattle.raft_safety.proofs.lemmas.CheckedLogLemmas.{le_test_min, prefix_of_both, common_short, common_itself, common_from, common_length}
 
 -- ---- the table of what is kept
@@ -160,38 +162,38 @@ module _ {T ID D : Type 0} (k : Tests T ID D (Option D)) (exact : AreExact k) wh
   -- ---- a step of one server
 
   -- what was kept of the terms below one that the server reaches
-  kept_below : (evs : List (Event T ID D)) (s : Server T ID D) (r next : ℕ) → SeesServer k evs s
+  kept_below : (evs : List (Event T ID D)) (s : ServerState T ID D) (r next : ℕ) → SeesServer k evs s
       → s.term ≤ next → r < next
-      → kept_at k r evs ≡ kept_from 0 (kept_after s.kept.items s.term (length s.log.items) next) r
+      → kept_at k r evs ≡ kept_from 0 (kept_after s.kept s.term (length s.log) next) r
   kept_below evs s r next sees le lt = go (cases_lt s.term next)
     where
       before : s.term < next → (r < s.term) ⊎ (s.term ≤ r)
           → kept_at k r evs
-          ≡ kept_from 0 (s.kept.items ++ record { term = s.term; len = length s.log.items } ∷ []) r
+          ≡ kept_from 0 (s.kept ++ record { term = s.term; len = length s.log } ∷ []) r
       before up (inl h) =
           let f : nat_le s.term r ≡ false = lt-leb s.term r h in
           sees.kept r h
-          ∙ sym (kept_from_push 0 s.kept.items (record { term = s.term; len = length s.log.items }) r
-          ∙ ap (λ b. if b then length s.log.items else kept_from 0 s.kept.items r) f)
+          ∙ sym (kept_from_push 0 s.kept (record { term = s.term; len = length s.log }) r
+          ∙ ap (λ b. if b then length s.log else kept_from 0 s.kept r) f)
       before up (inr h) =
           let f : nat_le s.term r ≡ true = le-leb s.term r h in
           let t : term_after k.rank evs ≤ r = rw sees.term h in
           (kept_all k exact r evs t ∙ ap length sees.log)
-          ∙ sym (kept_from_push 0 s.kept.items (record { term = s.term; len = length s.log.items }) r
-          ∙ ap (λ b. if b then length s.log.items else kept_from 0 s.kept.items r) f)
+          ∙ sym (kept_from_push 0 s.kept (record { term = s.term; len = length s.log }) r
+          ∙ ap (λ b. if b then length s.log else kept_from 0 s.kept r) f)
 
       go : (s.term < next) ⊎ (next ≤ s.term)
-          → kept_at k r evs ≡ kept_from 0 (kept_after s.kept.items s.term (length s.log.items) next) r
+          → kept_at k r evs ≡ kept_from 0 (kept_after s.kept s.term (length s.log) next) r
       go (inl up) = rw (lt-ltb s.term next up) (before up (cases_lt r s.term))
       go (inr same) =
           let below : r < s.term = omega arith in
           rw (le-ltb s.term next same) (sees.kept r below)
 
   -- a server reaches a term by a vote
-  pub sees_vote : (evs : List (Event T ID D)) (s new : Server T ID D) (t : T) (c : ID)
+  pub sees_vote : (evs : List (Event T ID D)) (s new : ServerState T ID D) (t : T) (c : ID)
       → SeesServer k evs s → s.term < k.rank t → new.term ≡ max s.term (k.rank t)
-      → new.voted ≡ k.rank t → new.log.items ≡ s.log.items → new.durable ≡ s.durable
-      → new.kept.items ≡ kept_after s.kept.items s.term (length s.log.items) (k.rank t)
+      → new.voted ≡ k.rank t → new.log ≡ s.log → new.durable ≡ s.durable
+      → new.kept ≡ kept_after s.kept s.term (length s.log) (k.rank t)
       → SeesServer k (GrantVote t c ∷ evs) new
   sees_vote evs s new t c sees up term voted log dur kept = record {
     term = omega arith;
@@ -207,15 +209,22 @@ module _ {T ID D : Type 0} (k : Tests T ID D (Option D)) (exact : AreExact k) wh
         ∙ small r
         ∙ kept_below evs s r (k.rank t) sees le below
         ∙ ap (λ ks. kept_from 0 ks r) (sym kept));
+    votes = λ u d h. voted_by u d (or_cases (same_leader k t c u d) (has_voted k u d evs) h);
   }
     where
+      voted_by : (u : T) (d : ID)
+          → (same_leader k t c u d ≡ true) ⊎ (has_voted k u d evs ≡ true) → k.rank u ≤ new.term
+      voted_by u d (inl e) =
+          let q : k.rank t ≡ k.rank u = ap k.rank (leader_right k exact t u c d e).0 in omega (arith, q, term)
+      voted_by u d (inr e) = let h : k.rank u ≤ s.term = sees.votes u d e in omega (arith, h, term)
+
       small : (r : ℕ) → min (kept_at k r evs) (length (log_after evs)) ≡ kept_at k r evs
       small r = let h : kept_at k r evs ≤ length (log_after evs) = kept_short k exact r evs in omega arith
 
   -- a server votes in a term that it has reached
-  pub sees_late_vote : (evs : List (Event T ID D)) (s new : Server T ID D) (t : T) (c : ID)
-      → SeesServer k evs s → new.term ≡ s.term → new.voted ≡ k.rank t → new.log.items ≡ s.log.items
-      → new.durable ≡ s.durable → new.kept.items ≡ s.kept.items
+  pub sees_late_vote : (evs : List (Event T ID D)) (s new : ServerState T ID D) (t : T) (c : ID)
+      → SeesServer k evs s → new.term ≡ s.term → new.voted ≡ k.rank t → new.log ≡ s.log
+      → new.durable ≡ s.durable → new.kept ≡ s.kept
       → SeesServer k (LateVote t c ∷ evs) new
   sees_late_vote evs s new t c sees term voted log dur kept = record {
     term = sees.term ∙ sym term;
@@ -229,19 +238,20 @@ module _ {T ID D : Type 0} (k : Tests T ID D (Option D)) (exact : AreExact k) wh
         ∙ ap (λ x. min (kept_at k r evs) x)
         (common_itself (same_entry k) (entry_right k exact) (entry_itself k exact) (log_after evs))
         ∙ small r ∙ sees.kept r below ∙ ap (λ ks. kept_from 0 ks r) (sym kept));
+    votes = λ u d h. (let before : k.rank u ≤ s.term = sees.votes u d h in omega (arith, before, term));
   }
     where
       small : (r : ℕ) → min (kept_at k r evs) (length (log_after evs)) ≡ kept_at k r evs
       small r = let h : kept_at k r evs ≤ length (log_after evs) = kept_short k exact r evs in omega arith
 
   -- a server takes entries
-  pub sees_append : (evs : List (Event T ID D)) (s new : Server T ID D) (t : T) (c : ID) (n : ℕ)
-      (sent : List (Entry T D)) → SeesServer k evs s → s.term ≤ k.rank t → n ≤ length s.log.items
+  pub sees_append : (evs : List (Event T ID D)) (s new : ServerState T ID D) (t : T) (c : ID) (n : ℕ)
+      (sent : List (Entry T D)) → SeesServer k evs s → s.term ≤ k.rank t → n ≤ length s.log
       → new.term ≡ max s.term (k.rank t) → new.voted ≡ s.voted
-      → new.log.items ≡ take n s.log.items ++ sent
-      → new.durable ≡ min s.durable (n + common_len (same_entry k) (drop n s.log.items) sent)
-      → new.kept.items ≡ map (at_most (n + common_len (same_entry k) (drop n s.log.items) sent))
-      (kept_after s.kept.items s.term (length s.log.items) (k.rank t))
+      → new.log ≡ take n s.log ++ sent
+      → new.durable ≡ min s.durable (n + common_len (same_entry k) (drop n s.log) sent)
+      → new.kept ≡ map (at_most (n + common_len (same_entry k) (drop n s.log) sent))
+      (kept_after s.kept s.term (length s.log) (k.rank t))
       → SeesServer k (and_append t c n sent evs) new
   sees_append evs s new t c n sent sees le within term voted log dur kept = record {
     term = omega arith;
@@ -250,41 +260,42 @@ module _ {T ID D : Type 0} (k : Tests T ID D (Option D)) (exact : AreExact k) wh
     durable =
         ap (λ x. min (durable k evs) x)
         (common_length k exact (log_after evs) (take n (log_after evs) ++ sent) ∙ shared)
-        ∙ ap (λ x. min x (n + common_len (same_entry k) (drop n s.log.items) sent)) sees.durable ∙ sym dur;
+        ∙ ap (λ x. min x (n + common_len (same_entry k) (drop n s.log) sent)) sees.durable ∙ sym dur;
     kept = λ r h.
         (let below : r < k.rank t = omega arith in
         kept_earlier k exact r (Append t c (take n (log_after evs) ++ sent)) evs below
         ∙ ap (λ x. min (kept_at k r evs) x) shared
-        ∙ ap (λ x. min x (n + common_len (same_entry k) (drop n s.log.items) sent))
+        ∙ ap (λ x. min x (n + common_len (same_entry k) (drop n s.log) sent))
         (kept_below evs s r (k.rank t) sees le below)
         ∙ sym (limit r)
         ∙ ap (λ ks. kept_from 0 ks r) (sym kept));
+    votes = λ u d h. (let before : k.rank u ≤ s.term = sees.votes u d h in omega (arith, before, term));
   }
     where
       within_log : n ≤ length (log_after evs)
       within_log = rw sees.log within
 
       shared : common_len (same_entry k) (log_after evs) (take n (log_after evs) ++ sent)
-          ≡ n + common_len (same_entry k) (drop n s.log.items) sent
+          ≡ n + common_len (same_entry k) (drop n s.log) sent
       shared =
           common_from (same_entry k) (entry_right k exact) (entry_itself k exact) n (log_after evs) sent
           within_log
           ∙ ap (λ l. n + common_len (same_entry k) (drop n l) sent) sees.log
 
-      limit : (r : ℕ) → kept_from 0 (map (at_most (n + common_len (same_entry k) (drop n s.log.items) sent))
-          (kept_after s.kept.items s.term (length s.log.items) (k.rank t))) r
-          ≡ min (kept_from 0 (kept_after s.kept.items s.term (length s.log.items) (k.rank t)) r)
-          (n + common_len (same_entry k) (drop n s.log.items) sent)
+      limit : (r : ℕ) → kept_from 0 (map (at_most (n + common_len (same_entry k) (drop n s.log) sent))
+          (kept_after s.kept s.term (length s.log) (k.rank t))) r
+          ≡ min (kept_from 0 (kept_after s.kept s.term (length s.log) (k.rank t)) r)
+          (n + common_len (same_entry k) (drop n s.log) sent)
       limit r =
-          let x : ℕ = n + common_len (same_entry k) (drop n s.log.items) sent in
+          let x : ℕ = n + common_len (same_entry k) (drop n s.log) sent in
           let z : 0 ≡ min 0 x = omega arith in
-          ap (λ m. kept_from m (map (at_most x) (kept_after s.kept.items s.term (length s.log.items) (k.rank t))) r) z
-          ∙ kept_from_limit x 0 (kept_after s.kept.items s.term (length s.log.items) (k.rank t)) r
+          ap (λ m. kept_from m (map (at_most x) (kept_after s.kept s.term (length s.log) (k.rank t))) r) z
+          ∙ kept_from_limit x 0 (kept_after s.kept s.term (length s.log) (k.rank t)) r
 
   -- a server acknowledges entries
-  pub sees_ack : (evs : List (Event T ID D)) (s new : Server T ID D) (t : T) (c : ID) (n : ℕ)
-      → SeesServer k evs s → new.term ≡ s.term → new.voted ≡ s.voted → new.log.items ≡ s.log.items
-      → new.durable ≡ max n s.durable → new.kept.items ≡ s.kept.items
+  pub sees_ack : (evs : List (Event T ID D)) (s new : ServerState T ID D) (t : T) (c : ID) (n : ℕ)
+      → SeesServer k evs s → new.term ≡ s.term → new.voted ≡ s.voted → new.log ≡ s.log
+      → new.durable ≡ max n s.durable → new.kept ≡ s.kept
       → SeesServer k (Ack t c n ∷ evs) new
   sees_ack evs s new t c n sees term voted log dur kept = record {
     term = sees.term ∙ sym term;
@@ -298,16 +309,17 @@ module _ {T ID D : Type 0} (k : Tests T ID D (Option D)) (exact : AreExact k) wh
         ∙ ap (λ x. min (kept_at k r evs) x)
         (common_itself (same_entry k) (entry_right k exact) (entry_itself k exact) (log_after evs))
         ∙ small r ∙ sees.kept r below ∙ ap (λ ks. kept_from 0 ks r) (sym kept));
+    votes = λ u d h. (let before : k.rank u ≤ s.term = sees.votes u d h in omega (arith, before, term));
   }
     where
       small : (r : ℕ) → min (kept_at k r evs) (length (log_after evs)) ≡ kept_at k r evs
       small r = let h : kept_at k r evs ≤ length (log_after evs) = kept_short k exact r evs in omega arith
 
   -- a server restarts
-  pub sees_restart : (evs : List (Event T ID D)) (s new : Server T ID D) (n : ℕ)
-      → SeesServer k evs s → n ≤ length s.log.items → new.term ≡ s.term → new.voted ≡ s.voted
-      → new.log.items ≡ take n s.log.items → new.durable ≡ min s.durable n
-      → new.kept.items ≡ map (at_most n) s.kept.items → SeesServer k (and_restart n evs) new
+  pub sees_restart : (evs : List (Event T ID D)) (s new : ServerState T ID D) (n : ℕ)
+      → SeesServer k evs s → n ≤ length s.log → new.term ≡ s.term → new.voted ≡ s.voted
+      → new.log ≡ take n s.log → new.durable ≡ min s.durable n
+      → new.kept ≡ map (at_most n) s.kept → SeesServer k (and_restart n evs) new
   sees_restart evs s new n sees within term voted log dur kept = record {
     term = sees.term ∙ sym term;
     voted = sees.voted ∙ sym voted;
@@ -324,6 +336,7 @@ module _ {T ID D : Type 0} (k : Tests T ID D (Option D)) (exact : AreExact k) wh
         ∙ ap (λ x. min x n) (sees.kept r below)
         ∙ sym (limit r)
         ∙ ap (λ ks. kept_from 0 ks r) (sym kept));
+    votes = λ u d h. (let before : k.rank u ≤ s.term = sees.votes u d h in omega (arith, before, term));
   }
     where
       within_log : n ≤ length (log_after evs)
@@ -332,26 +345,27 @@ module _ {T ID D : Type 0} (k : Tests T ID D (Option D)) (exact : AreExact k) wh
       shared : common_len (same_entry k) (log_after evs) (take n (log_after evs)) ≡ n
       shared = common_take k exact n (log_after evs) within_log
 
-      limit : (r : ℕ) → kept_from 0 (map (at_most n) s.kept.items) r ≡ min (kept_from 0 s.kept.items r) n
+      limit : (r : ℕ) → kept_from 0 (map (at_most n) s.kept) r ≡ min (kept_from 0 s.kept r) n
       limit r =
           let z : 0 ≡ min 0 n = omega arith in
-          ap (λ m. kept_from m (map (at_most n) s.kept.items) r) z ∙ kept_from_limit n 0 s.kept.items r
+          ap (λ m. kept_from m (map (at_most n) s.kept) r) z ∙ kept_from_limit n 0 s.kept r
 
   -- ---- all servers
 
-  pub sees_new : (new : Server T ID D) → new.term ≡ 0 → new.voted ≡ 0 → new.log.items ≡ [] → new.durable ≡ 0
-      → new.kept.items ≡ [] → SeesServer k [] new
+  pub sees_new : (new : ServerState T ID D) → new.term ≡ 0 → new.voted ≡ 0 → new.log ≡ [] → new.durable ≡ 0
+      → new.kept ≡ [] → SeesServer k [] new
   sees_new new term voted log dur kept = record {
     term = sym term;
     voted = sym voted;
     log = sym log;
     durable = sym dur;
     kept = λ r h. absurd (omega arith);
+    votes = λ u d h. absurd (cc);
   }
 
   -- a server is replaced, because its events are others now
-  pub see_set : (es new : List (TraceEvent T ID D)) (servers : List (Server T ID D)) (i : ℕ)
-      (s : Server T ID D) (r : ID) → position (λ (x : Server T ID D). k.same_id x.id r) servers ≡ Some i
+  pub see_set : (es new : List (TraceEvent T ID D)) (servers : List (ServerState T ID D)) (i : ℕ)
+      (s : ServerState T ID D) (r : ID) → position (λ (x : ServerState T ID D). k.same_id x.id r) servers ≡ Some i
       → k.same_id s.id r ≡ true → SeesServers k es servers
       → ((id : ID) → k.same_id r id ≡ false → events_in k new id ≡ events_in k es id)
       → SeesServer k (events_in k new r) s → SeesServers k new (set servers i s)
@@ -359,14 +373,14 @@ module _ {T ID D : Type 0} (k : Tests T ID D (Option D)) (exact : AreExact k) wh
     where
       facts : (i < length servers) × (k.same_id (get_or servers i s).id r ≡ true)
           × ((j : ℕ) → j < i → k.same_id (get_or servers j s).id r ≡ false)
-      facts = position-Some (λ (x : Server T ID D). k.same_id x.id r) servers i s at_i
+      facts = position-Some (λ (x : ServerState T ID D). k.same_id x.id r) servers i s at_i
 
       here : find_server k (set servers i s) r ≡ Some s
       here =
-          find-set (λ (x : Server T ID D). k.same_id x.id r) servers i s
-          (place_of (λ (x : Server T ID D). k.same_id x.id r) servers i at_i) facts.0 is_r
+          find-set (λ (x : ServerState T ID D). k.same_id x.id r) servers i s
+          (place_of (λ (x : ServerState T ID D). k.same_id x.id r) servers i at_i) facts.0 is_r
 
-      apart : (x : Server T ID D) → k.same_id x.id r ≡ true → k.same_id r id ≡ false
+      apart : (x : ServerState T ID D) → k.same_id x.id r ≡ true → k.same_id r id ≡ false
           → k.same_id x.id id ≡ false
       apart x a b = let e : x.id ≡ r = exact.same_id x.id r a in rw e b
 
@@ -377,13 +391,13 @@ module _ {T ID D : Type 0} (k : Tests T ID D (Option D)) (exact : AreExact k) wh
           let q : r ≡ id = exact.same_id r id e in
           subst (λ (x : ID). MatchOption (find_server k (set servers i s) x) (events_in k new x ≡ [])
           (SeesServer k (events_in k new x))) q
-          (subst (λ (o : Option (Server T ID D)). MatchOption o (events_in k new r ≡ [])
+          (subst (λ (o : Option (ServerState T ID D)). MatchOption o (events_in k new r ≡ [])
           (SeesServer k (events_in k new r))) (sym here) one)
       go (inr e) =
           let there : find_server k (set servers i s) id ≡ find_server k servers id =
-          find_past (λ (x : Server T ID D). k.same_id x.id id) servers i s s
+          find_past (λ (x : ServerState T ID D). k.same_id x.id id) servers i s s
           (apart (get_or servers i s) facts.1 e) (apart s is_r e) in
-          subst (λ (o : Option (Server T ID D)). MatchOption o (events_in k new id ≡ [])
+          subst (λ (o : Option (ServerState T ID D)). MatchOption o (events_in k new id ≡ [])
           (SeesServer k (events_in k new id))) (sym there)
           (subst (λ (l : List (Event T ID D)). MatchOption (find_server k servers id) (l ≡ [])
           (SeesServer k l)) (sym (others id e)) (sees id))

@@ -6,8 +6,6 @@ use Rattle.std.specs.Prelude.{
   ◌<◌,
   ◌≤◌,
   ℕ,
-  zero,
-  suc,
   Bool,
   true,
   false,
@@ -16,8 +14,6 @@ use Rattle.std.specs.Prelude.{
   ◌||◌,
   nat_lt,
   nat_le,
-  nat_eq,
-  min,
   max,
   if◌then◌else◌,
   Some,
@@ -47,67 +43,14 @@ use Rattle.std.proofs.lemmas.List.{
   length_push,
   get_or_default,
   drop_more,
-  length-drop,
-  take_all,
   take_more,
 }
-use Rattle.raft_safety.specs.Log.{Entry, last_term_or, last_term}
 use Rattle.raft_safety.specs.Trace.{TraceEvent}
 use Rattle.raft_safety.specs.Checker.{event_of, trace_after, trace_of}
-use Rattle.raft_safety.specs.Inner.CheckerState.{common_len, has_acked_to}
+use Rattle.raft_safety.specs.Inner.CheckerState.{has_acked_to}
 use Rattle.raft_safety.specs.declared.event.Event.{Event as RecordedEvent}
 use Rattle.raft_safety.specs.declared.checker.leader.Acked.{Acked}
 use Rattle.raft_safety.proofs.lemmas.CheckedLeaderLemmas.{any_push, any_set_or}
-
--- what two lists have in common from an index on, if their elements there are the same, and if not
-pub common_more : {E : Type 0} (same : E → E → Bool) (a b : List E) (i : ℕ) (d e : E) (equal : Bool)
-    → i < length a → i < length b → d ≡ get_or a i d → e ≡ get_or b i e → same d e ≡ equal
-    → common_len same (drop i a) (drop i b)
-    ≡ (if equal then suc (common_len same (drop (i + 1) a) (drop (i + 1) b)) else 0)
-common_more same a b i d e equal h g is_d is_e s =
-    (λ q. common_len same (drop_more a i d h q) (drop_more b i e g q))
-    ∙ (λ q. if same (sym is_d q) (sym is_e q) then suc (common_len same (drop (i + 1) a) (drop (i + 1) b)) else 0)
-    ∙ ap (λ t. if t then suc (common_len same (drop (i + 1) a) (drop (i + 1) b)) else 0) s
-
--- what a list has in common with another is no longer than the other
-pub common_within : {E : Type 0} (same : E → E → Bool) (a b : List E) → common_len same a b ≤ length b
-common_within same [] b = omega arith
-common_within same (x ∷ a) [] = omega arith
-common_within same (x ∷ a) (y ∷ b) = go (same x y) (common_within same a b)
-  where
-    go : (c : Bool) → common_len same a b ≤ length b
-        → (if c then suc (common_len same a b) else 0) ≤ suc (length b)
-    go true h = omega arith
-    go false h = omega arith
-
--- a list does not begin with a longer one
-pub not_longer : (n p l : ℕ) → n ≤ l → l < p → nat_eq n p ≡ false
-not_longer n p l h g = grind (arith, nat_tests)
-
-pub common_end : {E : Type 0} (same : E → E → Bool) (a b : List E) (i : ℕ)
-    → i ≡ min (length a) (length b) → common_len same (drop i a) (drop i b) ≡ 0
-common_end same [] [] zero h = refl
-common_end same [] [] (suc i) h = refl
-common_end same [] (y ∷ b) zero h = refl
-common_end same [] (y ∷ b) (suc i) h = refl
-common_end same (x ∷ a) [] zero h = refl
-common_end same (x ∷ a) [] (suc i) h = absurd (omega arith)
-common_end same (x ∷ a) (y ∷ b) zero h = absurd (omega arith)
-common_end same (x ∷ a) (y ∷ b) (suc i) h = common_end same a b i (omega arith)
-
-pub last_term_of : {T D : Type 0} (rank : T → ℕ) (r : ℕ) (log : List (Entry T D)) (d : Entry T D)
-    (i : ℕ) → length log ≡ suc i → last_term_or rank r log ≡ rank (get_or log i d).term
-last_term_of rank r [] d i h = absurd (omega arith)
-last_term_of rank r (e ∷ []) d zero h = refl
-last_term_of rank r (e ∷ []) d (suc i) h = absurd (omega arith)
-last_term_of rank r (e ∷ f ∷ log) d zero h = absurd (omega arith)
-last_term_of rank r (e ∷ f ∷ log) d (suc i) h =
-    last_term_of rank (rank e.term) (f ∷ log) d i (omega arith)
-
-pub last_term_read : {T D : Type 0} (rank : T → ℕ) (log : List (Entry T D)) (i : ℕ) (e : Entry T D)
-    → length log ≡ suc i → e ≡ get_or log i e → rank e.term ≡ last_term rank log
-last_term_read {T} {D} rank log i e h is =
-    ap (λ (x : Entry T D). rank x.term) is ∙ sym (last_term_of rank 0 log e i h)
 
 pub acked_more : {N : Type 0} (eq : N → N → Bool) (acks : List (Acked N)) (i : ℕ) (d : Acked N) (v : N)
     (n : ℕ) → i < length acks
@@ -248,10 +191,6 @@ place_push {X} p xs y none passes =
         position_or_len_is p (xs ++ y ∷ []) (length xs) y (omega (arith, longer))
         (λ k h. ap p (get_or_append_left xs (y ∷ []) y k h) ∙ fails_before_first p xs k y (omega (arith, past)))
         (λ h. ap p (get_or_push xs y y (length xs) refl) ∙ passes)
-
--- the entries from an index on are all after it
-pub rest_is : {X : Type 0} (xs : List X) (n : ℕ) → take (length xs - n) (drop n xs) ≡ drop n xs
-rest_is xs n = take_all (length xs - n) (drop n xs) (omega (arith, length-drop n xs))
 
 -- a search goes on past an element that does not pass
 pub search_more : {X : Type 0} (p : X → Bool) (xs : List X) (i : ℕ) (x : X) → i < length xs

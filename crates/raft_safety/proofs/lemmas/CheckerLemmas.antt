@@ -135,8 +135,8 @@ use Rattle.raft_safety.specs.Checker.{HasSeen}
 use Rattle.raft_safety.specs.Inner.Seen.{SeesServer, kept_at, SeesServers, SeesLeader, SeesNoLeader, SeesLeaders, find_server, find_leader}
 use Rattle.raft_safety.proofs.lemmas.RuleLemmas.{first_none, rest_none, first_two}
 use Rattle.raft_safety.specs.declared.rule.Rule.{Rule}
-use Rattle.raft_safety.specs.declared.checker.server.Server.{Server}
-use Rattle.raft_safety.specs.declared.checker.leader.Leader.{Leader}
+use Rattle.raft_safety.specs.Inner.CheckerState.{ServerState}
+use Rattle.raft_safety.specs.Inner.CheckerState.{LeaderState}
 use Rattle.raft_safety.proofs.lemmas.CheckedLogLemmas.{
   same_sym,
   common_from,
@@ -180,19 +180,19 @@ use Rattle.raft_safety.proofs.lemmas.CheckedLeaderLemmas.{
 
 -- an append that breaks no rule is in a term that the server has not passed, and keeps entries that
 -- the server has
-pub append_first : {T N D : Type 0} (same : Entry T D → Entry T D → Bool) (s : Server T N D)
-    (l : Leader T N D) (r n : ℕ) (sent : List (Entry T D)) → append_rule same s l r n sent ≡ None
-    → (s.term ≤ r) × (n ≤ length s.log.items)
+pub append_first : {T N D : Type 0} (same : Entry T D → Entry T D → Bool) (s : ServerState T N D)
+    (l : LeaderState T N D) (r n : ℕ) (sent : List (Entry T D)) → append_rule same s l r n sent ≡ None
+    → (s.term ≤ r) × (n ≤ length s.log)
 append_first same s l r n sent free =
-    let rules : (nat_le s.term r ≡ true) × (nat_le n (length s.log.items) ≡ true) =
-    first_two l.elected (nat_le s.term r) (nat_le n (length s.log.items)) NotElected PassedTerm MissingEntries
-    (unless (nat_le (common_len same s.log.items l.log.items) (n + common_len same (drop n s.log.items) sent))
+    let rules : (nat_le s.term r ≡ true) × (nat_le n (length s.log) ≡ true) =
+    first_two l.elected (nat_le s.term r) (nat_le n (length s.log)) NotElected PassedTerm MissingEntries
+    (unless (nat_le (common_len same s.log l.log) (n + common_len same (drop n s.log) sent))
     DropsMatching
-    (unless (nat_eq (common_len same (drop n s.log.items) sent) (length sent)
-    || (nat_le n (common_len same s.log.items l.log.items)
-    && nat_eq (common_len same (drop n l.log.items) sent) (length sent))) ForeignEntries None))
+    (unless (nat_eq (common_len same (drop n s.log) sent) (length sent)
+    || (nat_le n (common_len same s.log l.log)
+    && nat_eq (common_len same (drop n l.log) sent) (length sent))) ForeignEntries None))
     free in
-    (leb-true s.term r rules.0, leb-true n (length s.log.items) rules.1)
+    (leb-true s.term r rules.0, leb-true n (length s.log) rules.1)
 
 module _ {T ID D M : Type 0} (k : Tests T ID D M) where
   pub more_allowed : (e : TraceEvent T ID D) (es : List (TraceEvent T ID D))
@@ -210,68 +210,68 @@ or_no true = refl
 or_no false = refl
 
 -- what is kept of a leader
-pub record LeaderIs {T ID D : Type 0} (l : Leader T ID D) (t : T) (c : ID) (i : ℕ)
+pub record LeaderIs {T ID D : Type 0} (l : LeaderState T ID D) (t : T) (c : ID) (i : ℕ)
     (es : List (Entry T D)) (vs : List ID) (b : Bool) (o : Option ℕ) : Type 0 where
   pub term : l.term ≡ t
   pub id : l.id ≡ c
   pub start : l.start ≡ i
-  pub log : l.log.items ≡ es
-  pub voters : l.voters.items ≡ vs
+  pub log : l.log ≡ es
+  pub voters : l.voters ≡ vs
   pub elected : l.elected ≡ b
   pub committed : l.committed ≡ o
 
 module _ {T ID D : Type 0} (k : Tests T ID D (Option D)) (exact : AreExact k) where
   -- ---- what is seen of a server or leader at its place
 
-  pub server_seen : (es : List (TraceEvent T ID D)) (servers : List (Server T ID D)) (id : ID) (i : ℕ)
-      (d : Server T ID D) → SeesServers k es servers
-      → position (λ (s : Server T ID D). k.same_id s.id id) servers ≡ Some i
+  pub server_seen : (es : List (TraceEvent T ID D)) (servers : List (ServerState T ID D)) (id : ID) (i : ℕ)
+      (d : ServerState T ID D) → SeesServers k es servers
+      → position (λ (s : ServerState T ID D). k.same_id s.id id) servers ≡ Some i
       → SeesServer k (events_in k es id) (get_or servers i d)
   server_seen es servers id i d sees e =
-      subst (λ (o : Option (Server T ID D)). MatchOption o (events_in k es id ≡ [])
+      subst (λ (o : Option (ServerState T ID D)). MatchOption o (events_in k es id ≡ [])
       (SeesServer k (events_in k es id)))
-      (found_at (λ (s : Server T ID D). k.same_id s.id id) servers i d e) (sees id)
+      (found_at (λ (s : ServerState T ID D). k.same_id s.id id) servers i d e) (sees id)
 
-  pub leader_seen : (es : List (TraceEvent T ID D)) (leaders : List (Leader T ID D)) (t : T) (c : ID)
-      (j : ℕ) (d : Leader T ID D) → SeesLeaders k es leaders
-      → position (λ (l : Leader T ID D). same_leader k l.term l.id t c) leaders ≡ Some j
+  pub leader_seen : (es : List (TraceEvent T ID D)) (leaders : List (LeaderState T ID D)) (t : T) (c : ID)
+      (j : ℕ) (d : LeaderState T ID D) → SeesLeaders k es leaders
+      → position (λ (l : LeaderState T ID D). same_leader k l.term l.id t c) leaders ≡ Some j
       → SeesLeader k es t c (get_or leaders j d)
   leader_seen es leaders t c j d sees e =
-      subst (λ (o : Option (Leader T ID D)). MatchOption o (SeesNoLeader k es t c)
+      subst (λ (o : Option (LeaderState T ID D)). MatchOption o (SeesNoLeader k es t c)
       (SeesLeader k es t c))
-      (found_at (λ (l : Leader T ID D). same_leader k l.term l.id t c) leaders j d e) (sees t c)
+      (found_at (λ (l : LeaderState T ID D). same_leader k l.term l.id t c) leaders j d e) (sees t c)
 
-  pub no_leader_seen : (es : List (TraceEvent T ID D)) (leaders : List (Leader T ID D)) (t : T)
+  pub no_leader_seen : (es : List (TraceEvent T ID D)) (leaders : List (LeaderState T ID D)) (t : T)
       (c : ID) → SeesLeaders k es leaders
-      → position (λ (l : Leader T ID D). same_leader k l.term l.id t c) leaders ≡ None
+      → position (λ (l : LeaderState T ID D). same_leader k l.term l.id t c) leaders ≡ None
       → SeesNoLeader k es t c
   no_leader_seen es leaders t c sees e =
-      subst (λ (o : Option (Leader T ID D)). MatchOption o (SeesNoLeader k es t c)
+      subst (λ (o : Option (LeaderState T ID D)). MatchOption o (SeesNoLeader k es t c)
       (SeesLeader k es t c))
-      (none_found (λ (l : Leader T ID D). same_leader k l.term l.id t c) leaders e) (sees t c)
+      (none_found (λ (l : LeaderState T ID D). same_leader k l.term l.id t c) leaders e) (sees t c)
 
   -- a server without events is added
-  pub see_added : (es : List (TraceEvent T ID D)) (id : ID) (old new : List (Server T ID D))
-      → IsAdded (λ (s : Server T ID D). k.same_id s.id id) id old new → SeesServers k es old
+  pub see_added : (es : List (TraceEvent T ID D)) (id : ID) (old new : List (ServerState T ID D))
+      → IsAdded (λ (s : ServerState T ID D). k.same_id s.id id) id old new → SeesServers k es old
       → SeesServers k es new
   see_added es id old new is sees r =
-      rw is.added (rw (find-append (λ (s : Server T ID D). k.same_id s.id r) old (is.server ∷ []))
+      rw is.added (rw (find-append (λ (s : ServerState T ID D). k.same_id s.id r) old (is.server ∷ []))
       (go (find_server k old r) refl (cases_Bool (k.same_id is.server.id r))))
     where
       empty : find_server k old id ≡ None
-      empty = none_found (λ (s : Server T ID D). k.same_id s.id id) old is.absent
+      empty = none_found (λ (s : ServerState T ID D). k.same_id s.id id) old is.absent
 
       no_events : events_in k es id ≡ []
       no_events =
-          subst (λ (o : Option (Server T ID D)). MatchOption o (events_in k es id ≡ [])
+          subst (λ (o : Option (ServerState T ID D)). MatchOption o (events_in k es id ≡ [])
           (SeesServer k (events_in k es id))) empty (sees id)
 
-      go : (o : Option (Server T ID D)) → find_server k old r ≡ o
+      go : (o : Option (ServerState T ID D)) → find_server k old r ≡ o
           → (k.same_id is.server.id r ≡ true) ⊎ (k.same_id is.server.id r ≡ false)
-          → MatchOption (option_or o (find (λ (s : Server T ID D). k.same_id s.id r) (is.server ∷ [])))
+          → MatchOption (option_or o (find (λ (s : ServerState T ID D). k.same_id s.id r) (is.server ∷ [])))
           (events_in k es r ≡ []) (SeesServer k (events_in k es r))
       go (Some s) e b =
-          subst (λ (o : Option (Server T ID D)). MatchOption o (events_in k es r ≡ [])
+          subst (λ (o : Option (ServerState T ID D)). MatchOption o (events_in k es r ≡ [])
           (SeesServer k (events_in k es r))) e (sees r)
       go None e (inl b) =
           let q : is.server.id ≡ r = exact.same_id is.server.id r b in
@@ -279,12 +279,12 @@ module _ {T ID D : Type 0} (k : Tests T ID D (Option D)) (exact : AreExact k) wh
           let none : events_in k es r ≡ [] = subst (λ (x : ID). events_in k es x ≡ []) p no_events in
           rw (b, none) (sees_new k exact is.server is.is_new.term is.is_new.voted is.is_new.log is.is_new.durable is.is_new.kept)
       go None e (inr b) =
-          rw b (subst (λ (o : Option (Server T ID D)). MatchOption o (events_in k es r ≡ [])
+          rw b (subst (λ (o : Option (ServerState T ID D)). MatchOption o (events_in k es r ≡ [])
           (SeesServer k (events_in k es r))) e (sees r))
 
-  pub see_place : (es : List (TraceEvent T ID D)) (id : ID) (old new : List (Server T ID D)) (i : ℕ)
-      (leaders : List (Leader T ID D))
-      → HasPlace (λ (s : Server T ID D). k.same_id s.id id) id old new i → HasSeen k es old leaders
+  pub see_place : (es : List (TraceEvent T ID D)) (id : ID) (old new : List (ServerState T ID D)) (i : ℕ)
+      (leaders : List (LeaderState T ID D))
+      → HasPlace (λ (s : ServerState T ID D). k.same_id s.id id) id old new i → HasSeen k es old leaders
       → HasSeen k es new leaders
   see_place es id old new i leaders place seen = record {
     allowed = seen.allowed;
@@ -293,14 +293,14 @@ module _ {T ID D : Type 0} (k : Tests T ID D (Option D)) (exact : AreExact k) wh
     see_commits = seen.see_commits;
   }
     where
-      go : (new ≡ old) ⊎ IsAdded (λ (s : Server T ID D). k.same_id s.id id) id old new
+      go : (new ≡ old) ⊎ IsAdded (λ (s : ServerState T ID D). k.same_id s.id id) id old new
           → SeesServers k es new
       go (inl e) = λ r. rw e (seen.see_servers r)
       go (inr is) = see_added es id old new is seen.see_servers
 
   -- ---- restarts
 
-  pub restart_right : (es : List (TraceEvent T ID D)) (id : ID) (s : Server T ID D) (n : ℕ)
+  pub restart_right : (es : List (TraceEvent T ID D)) (id : ID) (s : ServerState T ID D) (n : ℕ)
       → SeesServer k (events_in k es id) s → broken_rule k (Restarted id n) es ≡ restart_rule s n
   restart_right es id s n sees = rw (sees.durable, sees.log) refl
 
@@ -327,10 +327,10 @@ module _ {T ID D : Type 0} (k : Tests T ID D (Option D)) (exact : AreExact k) wh
 
   -- an event of one server, which is seen of it, changes no leader
   server_event : (e : TraceEvent T ID D) (es : List (TraceEvent T ID D)) (id : ID)
-      (servers : List (Server T ID D)) (leaders : List (Leader T ID D)) (i : ℕ)
-      (s new : Server T ID D) (evs : List (Event T ID D))
+      (servers : List (ServerState T ID D)) (leaders : List (LeaderState T ID D)) (i : ℕ)
+      (s new : ServerState T ID D) (evs : List (Event T ID D))
       → ((r : ID) → events_in k (e ∷ es) r ≡ (if k.same_id id r then evs else events_in k es r))
-      → position (λ (x : Server T ID D). k.same_id x.id id) servers ≡ Some i → s ≡ get_or servers i s
+      → position (λ (x : ServerState T ID D). k.same_id x.id id) servers ≡ Some i → s ≡ get_or servers i s
       → new.id ≡ s.id → HasSeen k es servers leaders → SeesServer k evs new
       → SeesServers k (e ∷ es) (set servers i new)
   server_event e es id servers leaders i s new evs events at_i is same_id seen one =
@@ -341,17 +341,17 @@ module _ {T ID D : Type 0} (k : Tests T ID D (Option D)) (exact : AreExact k) wh
     where
       facts : (i < length servers) × (k.same_id (get_or servers i s).id id ≡ true)
           × ((j : ℕ) → j < i → k.same_id (get_or servers j s).id id ≡ false)
-      facts = position-Some (λ (x : Server T ID D). k.same_id x.id id) servers i s at_i
+      facts = position-Some (λ (x : ServerState T ID D). k.same_id x.id id) servers i s at_i
 
       is_id : k.same_id new.id id ≡ true
       is_id = rw same_id (rw is facts.1)
 
-  pub restart_seen : (es : List (TraceEvent T ID D)) (id : ID) (servers : List (Server T ID D))
-      (leaders : List (Leader T ID D)) (i n : ℕ) (s new : Server T ID D)
-      → position (λ (x : Server T ID D). k.same_id x.id id) servers ≡ Some i → s ≡ get_or servers i s
+  pub restart_seen : (es : List (TraceEvent T ID D)) (id : ID) (servers : List (ServerState T ID D))
+      (leaders : List (LeaderState T ID D)) (i n : ℕ) (s new : ServerState T ID D)
+      → position (λ (x : ServerState T ID D). k.same_id x.id id) servers ≡ Some i → s ≡ get_or servers i s
       → HasSeen k es servers leaders → restart_rule s n ≡ None
-      → new.id ≡ s.id → new.term ≡ s.term → new.voted ≡ s.voted → new.log.items ≡ take n s.log.items
-      → new.durable ≡ min s.durable n → new.kept.items ≡ map (at_most n) s.kept.items
+      → new.id ≡ s.id → new.term ≡ s.term → new.voted ≡ s.voted → new.log ≡ take n s.log
+      → new.durable ≡ min s.durable n → new.kept ≡ map (at_most n) s.kept
       → (broken_rule k (Restarted id n) es ≡ None)
       × HasSeen k (Restarted id n ∷ es) (set servers i new) leaders
   restart_seen es id servers leaders i n s new at_i is seen free same_id same_term vote log dur kept = (
@@ -374,11 +374,11 @@ module _ {T ID D : Type 0} (k : Tests T ID D (Option D)) (exact : AreExact k) wh
       ok : broken_rule k (Restarted id n) es ≡ None
       ok = restart_right es id s n at_s ∙ free
 
-      within : n ≤ length s.log.items
+      within : n ≤ length s.log
       within =
-          leb-true n (length s.log.items)
-          (first_none (nat_le n (length s.log.items)) MissingEntries None
-          (rest_none (nat_le s.durable n) LostAcked (unless (nat_le n (length s.log.items)) MissingEntries None) free))
+          leb-true n (length s.log)
+          (first_none (nat_le n (length s.log)) MissingEntries None
+          (rest_none (nat_le s.durable n) LostAcked (unless (nat_le n (length s.log)) MissingEntries None) free))
 
       events : (r : ID) → events_in k (Restarted id n ∷ es) r
           ≡ (if k.same_id id r then and_restart n (events_in k es id) else events_in k es r)
@@ -387,42 +387,42 @@ module _ {T ID D : Type 0} (k : Tests T ID D (Option D)) (exact : AreExact k) wh
   -- ---- entries that a server takes
 
   pub append_right : (es : List (TraceEvent T ID D)) (id : ID) (t : T) (c : ID) (n : ℕ)
-      (sent : List (Entry T D)) (s : Server T ID D) (l : Leader T ID D)
+      (sent : List (Entry T D)) (s : ServerState T ID D) (l : LeaderState T ID D)
       → SeesServer k (events_in k es id) s → SeesLeader k es t c l
       → broken_rule k (Appended id t c n sent) es ≡ append_rule (same_entry k) s l (k.rank t) n sent
   append_right es id t c n sent s l sees leads =
       rw (leads.elected, sees.term, sees.log, leads.leader_log)
-      (inner (cases_Bool (nat_le n (length s.log.items))))
+      (inner (cases_Bool (nat_le n (length s.log))))
     where
-      inner : (nat_le n (length s.log.items) ≡ true) ⊎ (nat_le n (length s.log.items) ≡ false)
+      inner : (nat_le n (length s.log) ≡ true) ⊎ (nat_le n (length s.log) ≡ false)
           → unless l.elected NotElected
           (unless (nat_le s.term (k.rank t)) PassedTerm
-          (unless (nat_le n (length s.log.items)) MissingEntries
-          (unless (is_prefix k (common_prefix k s.log.items l.log.items) (take n s.log.items ++ sent)) DropsMatching
-          (unless (is_prefix k (take n s.log.items ++ sent) s.log.items
-          || is_prefix k (take n s.log.items ++ sent) l.log.items) ForeignEntries None))))
+          (unless (nat_le n (length s.log)) MissingEntries
+          (unless (is_prefix k (common_prefix k s.log l.log) (take n s.log ++ sent)) DropsMatching
+          (unless (is_prefix k (take n s.log ++ sent) s.log
+          || is_prefix k (take n s.log ++ sent) l.log) ForeignEntries None))))
           ≡ append_rule (same_entry k) s l (k.rank t) n sent
       inner (inl e) =
-          let h : n ≤ length s.log.items = leb-true n (length s.log.items) e in
+          let h : n ≤ length s.log = leb-true n (length s.log) e in
           rw (
-            keeps_common k exact s.log.items l.log.items (take n s.log.items ++ sent),
-            common_from (same_entry k) (entry_right k exact) (entry_itself k exact) n s.log.items sent h,
-            appended_is_old k exact n s.log.items sent h,
-            appended_is_other k exact n s.log.items l.log.items sent h,
+            keeps_common k exact s.log l.log (take n s.log ++ sent),
+            common_from (same_entry k) (entry_right k exact) (entry_itself k exact) n s.log sent h,
+            appended_is_old k exact n s.log sent h,
+            appended_is_other k exact n s.log l.log sent h,
           ) refl
       inner (inr e) = rw e refl
 
   pub append_seen : (es : List (TraceEvent T ID D)) (id : ID) (t : T) (c : ID) (n : ℕ)
-      (sent : List (Entry T D)) (servers : List (Server T ID D)) (leaders : List (Leader T ID D))
-      (i j : ℕ) (s new : Server T ID D) (l : Leader T ID D)
-      → position (λ (x : Server T ID D). k.same_id x.id id) servers ≡ Some i → s ≡ get_or servers i s
-      → position (λ (x : Leader T ID D). same_leader k x.term x.id t c) leaders ≡ Some j
+      (sent : List (Entry T D)) (servers : List (ServerState T ID D)) (leaders : List (LeaderState T ID D))
+      (i j : ℕ) (s new : ServerState T ID D) (l : LeaderState T ID D)
+      → position (λ (x : ServerState T ID D). k.same_id x.id id) servers ≡ Some i → s ≡ get_or servers i s
+      → position (λ (x : LeaderState T ID D). same_leader k x.term x.id t c) leaders ≡ Some j
       → l ≡ get_or leaders j l
       → HasSeen k es servers leaders → append_rule (same_entry k) s l (k.rank t) n sent ≡ None
-      → new.id ≡ s.id → new.term ≡ max s.term (k.rank t) → new.voted ≡ s.voted → new.log.items ≡ take n s.log.items ++ sent
-      → new.durable ≡ min s.durable (n + common_len (same_entry k) (drop n s.log.items) sent)
-      → new.kept.items ≡ map (at_most (n + common_len (same_entry k) (drop n s.log.items) sent))
-      (kept_after s.kept.items s.term (length s.log.items) (k.rank t))
+      → new.id ≡ s.id → new.term ≡ max s.term (k.rank t) → new.voted ≡ s.voted → new.log ≡ take n s.log ++ sent
+      → new.durable ≡ min s.durable (n + common_len (same_entry k) (drop n s.log) sent)
+      → new.kept ≡ map (at_most (n + common_len (same_entry k) (drop n s.log) sent))
+      (kept_after s.kept s.term (length s.log) (k.rank t))
       → (broken_rule k (Appended id t c n sent) es ≡ None)
       × HasSeen k (Appended id t c n sent ∷ es) (set servers i new) leaders
   append_seen es id t c n sent servers leaders i j s new l at_i is at_j is_l seen free same_id term vote log dur kept = (
@@ -448,13 +448,13 @@ module _ {T ID D : Type 0} (k : Tests T ID D (Option D)) (exact : AreExact k) wh
       ok : broken_rule k (Appended id t c n sent) es ≡ None
       ok = append_right es id t c n sent s l at_s at_l ∙ free
 
-      rules : (s.term ≤ k.rank t) × (n ≤ length s.log.items)
+      rules : (s.term ≤ k.rank t) × (n ≤ length s.log)
       rules = append_first (same_entry k) s l (k.rank t) n sent free
 
       reached : s.term ≤ k.rank t
       reached = rules.0
 
-      within : n ≤ length s.log.items
+      within : n ≤ length s.log
       within = rules.1
 
       events : (r : ID) → events_in k (Appended id t c n sent ∷ es) r
@@ -464,79 +464,79 @@ module _ {T ID D : Type 0} (k : Tests T ID D (Option D)) (exact : AreExact k) wh
   -- ---- acknowledgements
 
   pub ack_right : (es : List (TraceEvent T ID D)) (id : ID) (t : T) (c : ID) (n : ℕ)
-      (s : Server T ID D) (l : Leader T ID D) → SeesServer k (events_in k es id) s
+      (s : ServerState T ID D) (l : LeaderState T ID D) → SeesServer k (events_in k es id) s
       → SeesLeader k es t c l
       → broken_rule k (Acked id t c n) es ≡ ack_rule (same_entry k) s l (k.rank t) n
   ack_right es id t c n s l sees leads =
       rw (leads.elected, sees.term, leads.leader_log) (ap (λ b. unless l.elected NotElected
       (unless (nat_le (k.rank t) s.term) TermNotReached
-      (unless (nat_le n (length l.log.items)) NotWritten (unless b NotKept None)))) kept)
+      (unless (nat_le n (length l.log)) NotWritten (unless b NotKept None)))) kept)
     where
-      by_len : has_kept k (k.rank t) (take n l.log.items) (events_in k es id)
-          ≡ (is_prefix k (take n l.log.items) (log_after (events_in k es id))
-          && nat_le (length (take n l.log.items)) (kept_at k (k.rank t) (events_in k es id)))
-      by_len = has_kept_by_len k exact (k.rank t) (take n l.log.items) (events_in k es id)
+      by_len : has_kept k (k.rank t) (take n l.log) (events_in k es id)
+          ≡ (is_prefix k (take n l.log) (log_after (events_in k es id))
+          && nat_le (length (take n l.log)) (kept_at k (k.rank t) (events_in k es id)))
+      by_len = has_kept_by_len k exact (k.rank t) (take n l.log) (events_in k es id)
 
-      prefix : is_prefix k (take n l.log.items) (log_after (events_in k es id))
-          ≡ nat_eq (common_len (same_entry k) (take n l.log.items) s.log.items) (length (take n l.log.items))
+      prefix : is_prefix k (take n l.log) (log_after (events_in k es id))
+          ≡ nat_eq (common_len (same_entry k) (take n l.log) s.log) (length (take n l.log))
       prefix =
-          ap (λ x. is_prefix k (take n l.log.items) x) sees.log
-          ∙ is_prefix_by_len k exact (take n l.log.items) s.log.items
+          ap (λ x. is_prefix k (take n l.log) x) sees.log
+          ∙ is_prefix_by_len k exact (take n l.log) s.log
 
       go : (b : Bool) → nat_le s.term (k.rank t) ≡ b
-          → (is_prefix k (take n l.log.items) (log_after (events_in k es id))
-          && nat_le (length (take n l.log.items)) (kept_at k (k.rank t) (events_in k es id)))
-          ≡ (is_prefix k (take n l.log.items) (log_after (events_in k es id))
-          && (b || nat_le (length (take n l.log.items)) (kept_from 0 s.kept.items (k.rank t))))
+          → (is_prefix k (take n l.log) (log_after (events_in k es id))
+          && nat_le (length (take n l.log)) (kept_at k (k.rank t) (events_in k es id)))
+          ≡ (is_prefix k (take n l.log) (log_after (events_in k es id))
+          && (b || nat_le (length (take n l.log)) (kept_from 0 s.kept (k.rank t))))
       go true e =
           let le : term_after k.rank (events_in k es id) ≤ k.rank t = rw sees.term (leb-true s.term (k.rank t) e) in
-          short (is_prefix k (take n l.log.items) (log_after (events_in k es id))) refl
+          short (is_prefix k (take n l.log) (log_after (events_in k es id))) refl
           (kept_all k exact (k.rank t) (events_in k es id) le)
         where
-          short : (a : Bool) → is_prefix k (take n l.log.items) (log_after (events_in k es id)) ≡ a
+          short : (a : Bool) → is_prefix k (take n l.log) (log_after (events_in k es id)) ≡ a
               → kept_at k (k.rank t) (events_in k es id) ≡ length (log_after (events_in k es id))
-              → (a && nat_le (length (take n l.log.items)) (kept_at k (k.rank t) (events_in k es id))) ≡ (a && true)
+              → (a && nat_le (length (take n l.log)) (kept_at k (k.rank t) (events_in k es id))) ≡ (a && true)
           short false f h = refl
           short true f h =
-              le-leb (length (take n l.log.items)) (kept_at k (k.rank t) (events_in k es id))
-              (rw h (prefix_length (prefix_right k exact (take n l.log.items) (log_after (events_in k es id)) f)))
+              le-leb (length (take n l.log)) (kept_at k (k.rank t) (events_in k es id))
+              (rw h (prefix_length (prefix_right k exact (take n l.log) (log_after (events_in k es id)) f)))
       go false e =
           let lt : k.rank t < s.term = leb-false s.term (k.rank t) e in
-          ap (λ x. is_prefix k (take n l.log.items) (log_after (events_in k es id))
-          && nat_le (length (take n l.log.items)) x) (sees.kept (k.rank t) lt)
+          ap (λ x. is_prefix k (take n l.log) (log_after (events_in k es id))
+          && nat_le (length (take n l.log)) x) (sees.kept (k.rank t) lt)
 
-      kept : has_kept k (k.rank t) (take n l.log.items) (events_in k es id)
-          ≡ has_kept_by (same_entry k) s (k.rank t) (take n l.log.items)
+      kept : has_kept k (k.rank t) (take n l.log) (events_in k es id)
+          ≡ has_kept_by (same_entry k) s (k.rank t) (take n l.log)
       kept =
           by_len ∙ go (nat_le s.term (k.rank t)) refl
           ∙ ap (λ x. x && (nat_le s.term (k.rank t)
-          || nat_le (length (take n l.log.items)) (kept_from 0 s.kept.items (k.rank t)))) prefix
+          || nat_le (length (take n l.log)) (kept_from 0 s.kept (k.rank t)))) prefix
 
   -- a leader that is replaced keeps its position
-  pub leader_place : (leaders : List (Leader T ID D)) (t : T) (c : ID) (j : ℕ) (l new : Leader T ID D)
-      → position (λ (x : Leader T ID D). same_leader k x.term x.id t c) leaders ≡ Some j
+  pub leader_place : (leaders : List (LeaderState T ID D)) (t : T) (c : ID) (j : ℕ) (l new : LeaderState T ID D)
+      → position (λ (x : LeaderState T ID D). same_leader k x.term x.id t c) leaders ≡ Some j
       → l ≡ get_or leaders j l → new.term ≡ l.term → new.id ≡ l.id
       → (j < length leaders) × (same_leader k new.term new.id t c ≡ true)
   leader_place leaders t c j l new at_j is same_term same_id =
       let facts : (j < length leaders)
       × (same_leader k (get_or leaders j l).term (get_or leaders j l).id t c ≡ true)
       × ((i : ℕ) → i < j → same_leader k (get_or leaders i l).term (get_or leaders i l).id t c ≡ false) =
-      position-Some (λ (x : Leader T ID D). same_leader k x.term x.id t c) leaders j l at_j in
+      position-Some (λ (x : LeaderState T ID D). same_leader k x.term x.id t c) leaders j l at_j in
       let here : same_leader k l.term l.id t c ≡ true = rw is facts.1 in
       (facts.0, rw (same_term, same_id) here)
 
   pub ack_seen : (es : List (TraceEvent T ID D)) (id : ID) (t : T) (c : ID) (n : ℕ)
-      (servers : List (Server T ID D)) (leaders : List (Leader T ID D)) (i j : ℕ)
-      (s new : Server T ID D) (l lnew : Leader T ID D)
-      → position (λ (x : Server T ID D). k.same_id x.id id) servers ≡ Some i → s ≡ get_or servers i s
-      → position (λ (x : Leader T ID D). same_leader k x.term x.id t c) leaders ≡ Some j
+      (servers : List (ServerState T ID D)) (leaders : List (LeaderState T ID D)) (i j : ℕ)
+      (s new : ServerState T ID D) (l lnew : LeaderState T ID D)
+      → position (λ (x : ServerState T ID D). k.same_id x.id id) servers ≡ Some i → s ≡ get_or servers i s
+      → position (λ (x : LeaderState T ID D). same_leader k x.term x.id t c) leaders ≡ Some j
       → l ≡ get_or leaders j l
       → HasSeen k es servers leaders → ack_rule (same_entry k) s l (k.rank t) n ≡ None
-      → new.id ≡ s.id → new.term ≡ s.term → new.voted ≡ s.voted → new.log.items ≡ s.log.items
-      → new.durable ≡ max n s.durable → new.kept.items ≡ s.kept.items
-      → ((v : ID) (m : ℕ) → has_acked_to k.same_id lnew.acked.items v m
-      ≡ (has_acked_to k.same_id l.acked.items v m || (k.same_id id v && nat_le m n)))
-      → LeaderIs lnew l.term l.id l.start l.log.items l.voters.items l.elected l.committed
+      → new.id ≡ s.id → new.term ≡ s.term → new.voted ≡ s.voted → new.log ≡ s.log
+      → new.durable ≡ max n s.durable → new.kept ≡ s.kept
+      → ((v : ID) (m : ℕ) → has_acked_to k.same_id lnew.acked v m
+      ≡ (has_acked_to k.same_id l.acked v m || (k.same_id id v && nat_le m n)))
+      → LeaderIs lnew l.term l.id l.start l.log l.voters l.elected l.committed
       → (broken_rule k (Acked id t c n) es ≡ None)
       × HasSeen k (Acked id t c n ∷ es) (set servers i new) (set leaders j lnew)
   ack_seen es id t c n servers leaders i j s new l lnew at_i is at_j is_l seen free same_id term vote log dur kept acked same = (
@@ -588,11 +588,11 @@ module _ {T ID D : Type 0} (k : Tests T ID D (Option D)) (exact : AreExact k) wh
 
       counted : (v : ID) (m : ℕ) (b : Bool) → k.same_id id v ≡ b
           → has_acked k t c m (if b then Ack t c n ∷ events_in k es v else events_in k es v)
-          ≡ (has_acked_to k.same_id l.acked.items v m || (b && nat_le m n))
+          ≡ (has_acked_to k.same_id l.acked v m || (b && nat_le m n))
       counted v m true e =
           rw (leader_from k exact t t c c refl refl)
-          (ap (λ x. nat_le m n || x) (at_l.acked v m) ∙ or_turn (nat_le m n) (has_acked_to k.same_id l.acked.items v m))
-      counted v m false e = at_l.acked v m ∙ sym (or_no (has_acked_to k.same_id l.acked.items v m))
+          (ap (λ x. nat_le m n || x) (at_l.acked v m) ∙ or_turn (nat_le m n) (has_acked_to k.same_id l.acked v m))
+      counted v m false e = at_l.acked v m ∙ sym (or_no (has_acked_to k.same_id l.acked v m))
 
       same_knows : (r : ℕ) (p : List (Entry T D)) → knows k.rank (same_entry k) r p lnew
           ≡ knows k.rank (same_entry k) r p (get_or leaders j l)
@@ -603,7 +603,7 @@ module _ {T ID D : Type 0} (k : Tests T ID D (Option D)) (exact : AreExact k) wh
   -- ---- votes
 
   pub grant_right : (es : List (TraceEvent T ID D)) (id : ID) (t : T) (c : ID)
-      (s : Server T ID D) (l : Leader T ID D) → SeesServer k (events_in k es id) s
+      (s : ServerState T ID D) (l : LeaderState T ID D) → SeesServer k (events_in k es id) s
       → SeesLeader k es t c l
       → broken_rule k (Granted id t c) es ≡ grant_rule k.rank k.same_id s l id (k.rank t) c
   grant_right es id t c s l sees leads =
@@ -613,22 +613,22 @@ module _ {T ID D : Type 0} (k : Tests T ID D (Option D)) (exact : AreExact k) wh
   same_id_turn a b = same_sym k.same_id exact.same_id exact.id_itself a b
 
   pub grant_seen : (es : List (TraceEvent T ID D)) (id : ID) (t : T) (c : ID)
-      (servers : List (Server T ID D)) (leaders : List (Leader T ID D)) (i j : ℕ)
-      (s new : Server T ID D) (l lnew : Leader T ID D)
-      → position (λ (x : Server T ID D). k.same_id x.id id) servers ≡ Some i → s ≡ get_or servers i s
-      → position (λ (x : Leader T ID D). same_leader k x.term x.id t c) leaders ≡ Some j
+      (servers : List (ServerState T ID D)) (leaders : List (LeaderState T ID D)) (i j : ℕ)
+      (s new : ServerState T ID D) (l lnew : LeaderState T ID D)
+      → position (λ (x : ServerState T ID D). k.same_id x.id id) servers ≡ Some i → s ≡ get_or servers i s
+      → position (λ (x : LeaderState T ID D). same_leader k x.term x.id t c) leaders ≡ Some j
       → l ≡ get_or leaders j l
       → HasSeen k es servers leaders → grant_rule k.rank k.same_id s l id (k.rank t) c ≡ None
-      → s.term < k.rank t → new.id ≡ s.id → new.term ≡ max s.term (k.rank t) → new.voted ≡ k.rank t → new.log.items ≡ s.log.items
+      → s.term < k.rank t → new.id ≡ s.id → new.term ≡ max s.term (k.rank t) → new.voted ≡ k.rank t → new.log ≡ s.log
       → new.durable ≡ s.durable
-      → new.kept.items ≡ kept_after s.kept.items s.term (length s.log.items) (k.rank t)
-      → ((v : ID) → is_member k.same_id lnew.voters.items v
-      ≡ (is_member k.same_id l.voters.items v || k.same_id v id))
-      → IsDistinct k.same_id lnew.voters.items
-      → lnew.elected ≡ k.quorum_of (effective_config k.config_of k.initial (take l.start l.log.items))
-      (is_member k.same_id lnew.voters.items)
-      → lnew.acked.items ≡ l.acked.items
-      → LeaderIs lnew l.term l.id l.start l.log.items lnew.voters.items lnew.elected l.committed
+      → new.kept ≡ kept_after s.kept s.term (length s.log) (k.rank t)
+      → ((v : ID) → is_member k.same_id lnew.voters v
+      ≡ (is_member k.same_id l.voters v || k.same_id v id))
+      → IsDistinct k.same_id lnew.voters
+      → lnew.elected ≡ k.quorum_of (effective_config k.config_of k.initial (take l.start l.log))
+      (is_member k.same_id lnew.voters)
+      → lnew.acked ≡ l.acked
+      → LeaderIs lnew l.term l.id l.start l.log lnew.voters lnew.elected l.committed
       → (broken_rule k (Granted id t c) es ≡ None)
       × HasSeen k (Granted id t c ∷ es) (set servers i new) (set leaders j lnew)
   grant_seen es id t c servers leaders i j s new l lnew at_i is at_j is_l seen free above same_id term vote log dur kept voted
@@ -684,20 +684,20 @@ module _ {T ID D : Type 0} (k : Tests T ID D (Option D)) (exact : AreExact k) wh
 
       counted : (v : ID) (b : Bool) → k.same_id id v ≡ b
           → has_voted k t c (if b then and_vote k t c (events_in k es v) else events_in k es v)
-          ≡ (is_member k.same_id l.voters.items v || b)
+          ≡ (is_member k.same_id l.voters v || b)
       counted v true e =
           let here : nat_lt (term_after k.rank (events_in k es v)) (k.rank t) ≡ true =
           rw (exact.same_id id v e) at in_time in
-          rw here (rw (leader_from k exact t t c c refl refl) (or_turn true (is_member k.same_id l.voters.items v)))
-      counted v false e = at_l.voted v ∙ sym (or_no (is_member k.same_id l.voters.items v))
+          rw here (rw (leader_from k exact t t c c refl refl) (or_turn true (is_member k.same_id l.voters v)))
+      counted v false e = at_l.voted v ∙ sym (or_no (is_member k.same_id l.voters v))
 
       votes : (v : ID) → has_voted k t c (events_in k (Granted id t c ∷ es) v)
-          ≡ is_member k.same_id lnew.voters.items v
+          ≡ is_member k.same_id lnew.voters v
       votes v =
           counted v (k.same_id id v) refl
-          ∙ ap (λ x. is_member k.same_id l.voters.items v || x) (same_id_turn id v) ∙ sym (voted v)
+          ∙ ap (λ x. is_member k.same_id l.voters v || x) (same_id_turn id v) ∙ sym (voted v)
 
-      own : is_member k.same_id lnew.voters.items c ≡ true
+      own : is_member k.same_id lnew.voters c ≡ true
       own = voted c ∙ ap (λ x. x || k.same_id c id) at_l.own_vote
 
       same_knows : (r : ℕ) (p : List (Entry T D)) → knows k.rank (same_entry k) r p lnew
@@ -708,14 +708,14 @@ module _ {T ID D : Type 0} (k : Tests T ID D (Option D)) (exact : AreExact k) wh
 
   -- a vote in a term in which the server has taken entries changes no leader
   pub late_vote_seen : (es : List (TraceEvent T ID D)) (id : ID) (t : T) (c : ID)
-      (servers : List (Server T ID D)) (leaders : List (Leader T ID D)) (i j : ℕ)
-      (s new : Server T ID D) (l : Leader T ID D)
-      → position (λ (x : Server T ID D). k.same_id x.id id) servers ≡ Some i → s ≡ get_or servers i s
-      → position (λ (x : Leader T ID D). same_leader k x.term x.id t c) leaders ≡ Some j
+      (servers : List (ServerState T ID D)) (leaders : List (LeaderState T ID D)) (i j : ℕ)
+      (s new : ServerState T ID D) (l : LeaderState T ID D)
+      → position (λ (x : ServerState T ID D). k.same_id x.id id) servers ≡ Some i → s ≡ get_or servers i s
+      → position (λ (x : LeaderState T ID D). same_leader k x.term x.id t c) leaders ≡ Some j
       → l ≡ get_or leaders j l
       → HasSeen k es servers leaders → grant_rule k.rank k.same_id s l id (k.rank t) c ≡ None
       → k.rank t ≤ s.term → new.id ≡ s.id → new.term ≡ s.term → new.voted ≡ k.rank t
-      → new.log.items ≡ s.log.items → new.durable ≡ s.durable → new.kept.items ≡ s.kept.items
+      → new.log ≡ s.log → new.durable ≡ s.durable → new.kept ≡ s.kept
       → (broken_rule k (Granted id t c) es ≡ None)
       × HasSeen k (Granted id t c ∷ es) (set servers i new) leaders
   late_vote_seen es id t c servers leaders i j s new l at_i is at_j is_l seen free reached same_id term vote log dur kept = (
@@ -748,28 +748,28 @@ module _ {T ID D : Type 0} (k : Tests T ID D (Option D)) (exact : AreExact k) wh
 
   -- ---- campaigns
 
-  pub campaign_twice : (es : List (TraceEvent T ID D)) (t : T) (c : ID) (l : Leader T ID D)
+  pub campaign_twice : (es : List (TraceEvent T ID D)) (t : T) (c : ID) (l : LeaderState T ID D)
       → SeesLeader k es t c l → broken_rule k (Campaigned c t) es ≡ Some CampaignedTwice
   campaign_twice es t c l leads = rw leads.campaigned refl
 
-  pub campaign_right : (es : List (TraceEvent T ID D)) (t : T) (c : ID) (s : Server T ID D)
+  pub campaign_right : (es : List (TraceEvent T ID D)) (t : T) (c : ID) (s : ServerState T ID D)
       → SeesServer k (events_in k es c) s → SeesNoLeader k es t c
       → broken_rule k (Campaigned c t) es ≡ unless (nat_lt s.term (k.rank t)) PassedTerm None
   campaign_right es t c s sees none = rw (none.campaigned, sees.term) refl
 
   pub campaign_seen : (es : List (TraceEvent T ID D)) (t : T) (c : ID)
-      (servers : List (Server T ID D)) (leaders : List (Leader T ID D)) (i : ℕ)
-      (s new : Server T ID D) (lnew : Leader T ID D)
-      → position (λ (x : Server T ID D). k.same_id x.id c) servers ≡ Some i → s ≡ get_or servers i s
-      → position (λ (x : Leader T ID D). same_leader k x.term x.id t c) leaders ≡ None
+      (servers : List (ServerState T ID D)) (leaders : List (LeaderState T ID D)) (i : ℕ)
+      (s new : ServerState T ID D) (lnew : LeaderState T ID D)
+      → position (λ (x : ServerState T ID D). k.same_id x.id c) servers ≡ Some i → s ≡ get_or servers i s
+      → position (λ (x : LeaderState T ID D). same_leader k x.term x.id t c) leaders ≡ None
       → HasSeen k es servers leaders → s.term < k.rank t
-      → new.id ≡ s.id → new.term ≡ max s.term (k.rank t) → new.voted ≡ k.rank t → new.log.items ≡ s.log.items
+      → new.id ≡ s.id → new.term ≡ max s.term (k.rank t) → new.voted ≡ k.rank t → new.log ≡ s.log
       → new.durable ≡ s.durable
-      → new.kept.items ≡ kept_after s.kept.items s.term (length s.log.items) (k.rank t)
-      → lnew.elected ≡ k.quorum_of (effective_config k.config_of k.initial s.log.items)
+      → new.kept ≡ kept_after s.kept s.term (length s.log) (k.rank t)
+      → lnew.elected ≡ k.quorum_of (effective_config k.config_of k.initial s.log)
       (is_member k.same_id (c ∷ []))
-      → lnew.acked.items ≡ []
-      → LeaderIs lnew t c (length s.log.items) s.log.items (c ∷ []) lnew.elected None
+      → lnew.acked ≡ []
+      → LeaderIs lnew t c (length s.log) s.log (c ∷ []) lnew.elected None
       → (broken_rule k (Campaigned c t) es ≡ None)
       × HasSeen k (Campaigned c t ∷ es) (set servers i new) (lnew ∷ leaders)
   campaign_seen es t c servers leaders i s new lnew at_i is absent seen above same_id term vote log dur kept elected acked same = (
@@ -824,11 +824,11 @@ module _ {T ID D : Type 0} (k : Tests T ID D (Option D)) (exact : AreExact k) wh
       is_key : same_leader k lnew.term lnew.id t c ≡ true
       is_key = rw (same.term, same.id) me
 
-      log0 : candidate_log_in k (Campaigned c t ∷ es) t c ≡ s.log.items
+      log0 : candidate_log_in k (Campaigned c t ∷ es) t c ≡ s.log
       log0 = rw me at_s.log
 
-      cand : candidate_log_in k (Campaigned c t ∷ es) t c ≡ take (length s.log.items) s.log.items
-      cand = log0 ∙ sym (take_all (length s.log.items) s.log.items (omega arith))
+      cand : candidate_log_in k (Campaigned c t ∷ es) t c ≡ take (length s.log) s.log
+      cand = log0 ∙ sym (take_all (length s.log) s.log (omega arith))
 
       counted : (v : ID) (b : Bool) → k.same_id c v ≡ b
           → has_voted k t c (if b then GrantVote t c ∷ events_in k es v else events_in k es v)
@@ -845,7 +845,7 @@ module _ {T ID D : Type 0} (k : Tests T ID D (Option D)) (exact : AreExact k) wh
 
       knows_none : (r : ℕ) (p : List (Entry T D)) → knows k.rank (same_entry k) r p lnew ≡ false
       knows_none r p =
-          (λ q. nat_le (k.rank lnew.term) r && has_committed (same_entry k) lnew.log.items (same.committed q) p)
+          (λ q. nat_le (k.rank lnew.term) r && has_committed (same_entry k) lnew.log (same.committed q) p)
           ∙ and_right (nat_le (k.rank lnew.term) r) false refl
 
   -- ---- entries that a leader writes
@@ -867,7 +867,7 @@ module _ {T ID D : Type 0} (k : Tests T ID D (Option D)) (exact : AreExact k) wh
       go false = refl
 
   pub write_right : (es : List (TraceEvent T ID D)) (t : T) (c : ID) (e : Entry T D)
-      (l : Leader T ID D) (holds : D → Bool) → ((d : D) → k.config_of d ≡ config_in holds d)
+      (l : LeaderState T ID D) (holds : D → Bool) → ((d : D) → k.config_of d ≡ config_in holds d)
       → k.initial ≡ None → SeesLeader k es t c l
       → broken_rule k (Wrote c t e) es ≡ write_rule k.same_term holds k.intersect l t e
   write_right es t c e l holds is initial leads =
@@ -877,7 +877,7 @@ module _ {T ID D : Type 0} (k : Tests T ID D (Option D)) (exact : AreExact k) wh
       configs = λ q d. is d q
 
       in_effect : effective_config k.config_of k.initial (leader_log_in k es t c)
-          ≡ effective_config (config_in holds) None l.log.items
+          ≡ effective_config (config_in holds) None l.log
       in_effect = λ q. effective_config (configs q) (initial q) (leads.leader_log q)
 
       tested : (o : Option ℕ) (x : List (Entry T D))
@@ -886,16 +886,16 @@ module _ {T ID D : Type 0} (k : Tests T ID D (Option D)) (exact : AreExact k) wh
       tested (Some n) x = config_test holds is (drop n x)
 
       committed : is_config_committed k t c (leader_log_in k es t c) es
-          ≡ config_committed (no_config_in holds) l.committed l.log.items
+          ≡ config_committed (no_config_in holds) l.committed l.log
       committed =
           leads.committed (leader_log_in k es t c)
           ∙ ap (λ x. config_committed (hold_no_config k) l.committed x) leads.leader_log
-          ∙ tested l.committed l.log.items
+          ∙ tested l.committed l.log
 
       go : (b : Bool) → proposal_rule k es t c (if b then Some (Some e.content) else None)
-          ≡ (if b then unless (k.intersect (effective_config (config_in holds) None l.log.items) (Some e.content)) ApartConfigs
+          ≡ (if b then unless (k.intersect (effective_config (config_in holds) None l.log) (Some e.content)) ApartConfigs
           (unless (k.intersect (Some e.content) (Some e.content)) ApartQuorums
-          (unless (config_committed (no_config_in holds) l.committed l.log.items) EarlyConfig None))
+          (unless (config_committed (no_config_in holds) l.committed l.log) EarlyConfig None))
           else None)
       go true =
           λ q. unless (k.intersect (in_effect q) (Some e.content)) ApartConfigs
@@ -907,12 +907,12 @@ module _ {T ID D : Type 0} (k : Tests T ID D (Option D)) (exact : AreExact k) wh
       proposal = ap (λ o. proposal_rule k es t c o) (is e.content) ∙ go (holds e.content)
 
   pub write_seen : (es : List (TraceEvent T ID D)) (t : T) (c : ID) (e : Entry T D)
-      (servers : List (Server T ID D)) (leaders : List (Leader T ID D)) (j : ℕ) (l lnew : Leader T ID D)
-      → position (λ (x : Leader T ID D). same_leader k x.term x.id t c) leaders ≡ Some j
+      (servers : List (ServerState T ID D)) (leaders : List (LeaderState T ID D)) (j : ℕ) (l lnew : LeaderState T ID D)
+      → position (λ (x : LeaderState T ID D). same_leader k x.term x.id t c) leaders ≡ Some j
       → l ≡ get_or leaders j l
       → HasSeen k es servers leaders → broken_rule k (Wrote c t e) es ≡ None
-      → lnew.acked.items ≡ l.acked.items
-      → LeaderIs lnew l.term l.id l.start (l.log.items ++ e ∷ []) l.voters.items l.elected l.committed
+      → lnew.acked ≡ l.acked
+      → LeaderIs lnew l.term l.id l.start (l.log ++ e ∷ []) l.voters l.elected l.committed
       → (broken_rule k (Wrote c t e) es ≡ None)
       × HasSeen k (Wrote c t e ∷ es) servers (set leaders j lnew)
   write_seen es t c e servers leaders j l lnew at_j is_l seen ok acked same = (
@@ -926,7 +926,7 @@ module _ {T ID D : Type 0} (k : Tests T ID D (Option D)) (exact : AreExact k) wh
           (record {
             campaigned = at_l.campaigned;
             start = rw (same.start, same.log) longer;
-            candidate_log = at_l.candidate_log ∙ sym (take-append-le l.start l.log.items (e ∷ []) at_l.start)
+            candidate_log = at_l.candidate_log ∙ sym (take-append-le l.start l.log (e ∷ []) at_l.start)
                 ∙ sym (λ q. take (same.start q) (same.log q));
             leader_log = rw me (ap (λ x. x ++ e ∷ []) at_l.leader_log ∙ sym same.log);
             voted = λ v. at_l.voted v ∙ sym (ap (λ x. is_member k.same_id x v) same.voters);
@@ -951,24 +951,24 @@ module _ {T ID D : Type 0} (k : Tests T ID D (Option D)) (exact : AreExact k) wh
       place : (j < length leaders) × (same_leader k lnew.term lnew.id t c ≡ true)
       place = leader_place leaders t c j l lnew at_j is_l same.term same.id
 
-      more : length l.log.items ≤ length (l.log.items ++ e ∷ [])
+      more : length l.log ≤ length (l.log ++ e ∷ [])
       more = simp length-append (omega arith)
 
-      longer : l.start ≤ length (l.log.items ++ e ∷ [])
-      longer = let a : l.start ≤ length l.log.items = at_l.start in omega (arith, more)
+      longer : l.start ≤ length (l.log ++ e ∷ [])
+      longer = let a : l.start ≤ length l.log = at_l.start in omega (arith, more)
 
-      within : (o : Option ℕ) → MatchOption o (Unit {0}) (λ n. n ≤ length l.log.items)
-          → MatchOption o (Unit {0}) (λ n. n ≤ length (l.log.items ++ e ∷ []))
+      within : (o : Option ℕ) → MatchOption o (Unit {0}) (λ n. n ≤ length l.log)
+          → MatchOption o (Unit {0}) (λ n. n ≤ length (l.log ++ e ∷ []))
       within None h = tt
       within (Some n) h = omega (arith, more)
 
       same_committed : (o : Option ℕ) (p : List (Entry T D))
-          → MatchOption o (Unit {0}) (λ n. n ≤ length l.log.items)
-          → has_committed (same_entry k) (l.log.items ++ e ∷ []) o p
-          ≡ has_committed (same_entry k) l.log.items o p
+          → MatchOption o (Unit {0}) (λ n. n ≤ length l.log)
+          → has_committed (same_entry k) (l.log ++ e ∷ []) o p
+          ≡ has_committed (same_entry k) l.log o p
       same_committed None p h = refl
       same_committed (Some n) p h =
-          ap (λ x. nat_eq (common_len (same_entry k) p x) (length p)) (take-append-le n l.log.items (e ∷ []) h)
+          ap (λ x. nat_eq (common_len (same_entry k) p x) (length p)) (take-append-le n l.log (e ∷ []) h)
 
       same_knows : (r : ℕ) (p : List (Entry T D)) → knows k.rank (same_entry k) r p lnew
           ≡ knows k.rank (same_entry k) r p (get_or leaders j l)
@@ -980,14 +980,14 @@ module _ {T ID D : Type 0} (k : Tests T ID D (Option D)) (exact : AreExact k) wh
   -- ---- commits
 
   -- what a commit breaks: a rule of the leader alone, or there is no quorum
-  pub commit_right : (es : List (TraceEvent T ID D)) (t : T) (c : ID) (n m : ℕ) (l : Leader T ID D)
+  pub commit_right : (es : List (TraceEvent T ID D)) (t : T) (c : ID) (n m : ℕ) (l : LeaderState T ID D)
       (quorum : Bool) → SeesLeader k es t c l
-      → is_quorum_of_log k (take m l.log.items) (λ v. has_acked_to k.same_id l.acked.items v n) ≡ quorum
+      → is_quorum_of_log k (take m l.log) (λ v. has_acked_to k.same_id l.acked v n) ≡ quorum
       → broken_rule k (Committed c t n m) es
       ≡ unless l.elected NotElected
       (unless (nat_lt l.start n) EarlierTerm
       (unless (nat_le n m) CountedEarly
-      (unless (nat_le m (length l.log.items)) NotWritten (unless quorum NoQuorum None))))
+      (unless (nat_le m (length l.log)) NotWritten (unless quorum NoQuorum None))))
   commit_right es t c n m l quorum leads is =
       λ q. unless (leads.elected q) NotElected
       (unless (nat_lt (start q) n) EarlierTerm
@@ -996,20 +996,20 @@ module _ {T ID D : Type 0} (k : Tests T ID D (Option D)) (exact : AreExact k) wh
       (unless (counted q) NoQuorum None))))
     where
       start : length (candidate_log_in k es t c) ≡ l.start
-      start = ap length leads.candidate_log ∙ length-take-le l.start l.log.items leads.start
+      start = ap length leads.candidate_log ∙ length-take-le l.start l.log leads.start
 
       counted : is_quorum_of_log k (take m (leader_log_in k es t c)) (λ v. has_acked k t c n (events_in k es v))
           ≡ quorum
       counted = (λ q. is_quorum_of_log k (take m (leads.leader_log q)) (λ v. leads.acked v n q)) ∙ is
 
-  pub commit_first : (l : Leader T ID D) (n m : ℕ) (r : Rule) (o : Option Rule)
+  pub commit_first : (l : LeaderState T ID D) (n m : ℕ) (r : Rule) (o : Option Rule)
       → commit_rule l n m ≡ Some r
       → unless l.elected NotElected
       (unless (nat_lt l.start n) EarlierTerm
       (unless (nat_le n m) CountedEarly
-      (unless (nat_le m (length l.log.items)) NotWritten o))) ≡ Some r
+      (unless (nat_le m (length l.log)) NotWritten o))) ≡ Some r
   commit_first l n m r o e =
-      go l.elected (nat_lt l.start n) (nat_le n m) (nat_le m (length l.log.items)) e
+      go l.elected (nat_lt l.start n) (nat_le n m) (nat_le m (length l.log)) e
     where
       go : (a b x y : Bool)
           → unless a NotElected (unless b EarlierTerm (unless x CountedEarly (unless y NotWritten None))) ≡ Some r
@@ -1020,13 +1020,13 @@ module _ {T ID D : Type 0} (k : Tests T ID D (Option D)) (exact : AreExact k) wh
       go true false x y h = h
       go false b x y h = h
 
-  pub commit_then : (l : Leader T ID D) (n m : ℕ) (o : Option Rule) → commit_rule l n m ≡ None
+  pub commit_then : (l : LeaderState T ID D) (n m : ℕ) (o : Option Rule) → commit_rule l n m ≡ None
       → unless l.elected NotElected
       (unless (nat_lt l.start n) EarlierTerm
       (unless (nat_le n m) CountedEarly
-      (unless (nat_le m (length l.log.items)) NotWritten o))) ≡ o
+      (unless (nat_le m (length l.log)) NotWritten o))) ≡ o
   commit_then l n m o e =
-      go l.elected (nat_lt l.start n) (nat_le n m) (nat_le m (length l.log.items)) e
+      go l.elected (nat_lt l.start n) (nat_le n m) (nat_le m (length l.log)) e
     where
       go : (a b x y : Bool)
           → unless a NotElected (unless b EarlierTerm (unless x CountedEarly (unless y NotWritten None))) ≡ None
@@ -1083,13 +1083,13 @@ module _ {T ID D : Type 0} (k : Tests T ID D (Option D)) (exact : AreExact k) wh
           ap test e ∙ both (test a) (test n) (up n a h) ∙ or_turn (test a) (test n)
 
   pub commit_seen : (es : List (TraceEvent T ID D)) (t : T) (c : ID) (n m : ℕ)
-      (servers : List (Server T ID D)) (leaders : List (Leader T ID D)) (j : ℕ) (l lnew : Leader T ID D)
-      → position (λ (x : Leader T ID D). same_leader k x.term x.id t c) leaders ≡ Some j
+      (servers : List (ServerState T ID D)) (leaders : List (LeaderState T ID D)) (j : ℕ) (l lnew : LeaderState T ID D)
+      → position (λ (x : LeaderState T ID D). same_leader k x.term x.id t c) leaders ≡ Some j
       → l ≡ get_or leaders j l
       → HasSeen k es servers leaders → broken_rule k (Committed c t n m) es ≡ None
-      → n ≤ length l.log.items
-      → lnew.acked.items ≡ l.acked.items
-      → LeaderIs lnew l.term l.id l.start l.log.items l.voters.items l.elected
+      → n ≤ length l.log
+      → lnew.acked ≡ l.acked
+      → LeaderIs lnew l.term l.id l.start l.log l.voters l.elected
       (Some (max (unwrap_or l.committed 0) n))
       → (broken_rule k (Committed c t n m) es ≡ None)
       × HasSeen k (Committed c t n m ∷ es) servers (set leaders j lnew)
@@ -1138,12 +1138,12 @@ module _ {T ID D : Type 0} (k : Tests T ID D (Option D)) (exact : AreExact k) wh
           let facts : (j < length leaders)
           × (same_leader k (get_or leaders j l).term (get_or leaders j l).id t c ≡ true)
           × ((i : ℕ) → i < j → same_leader k (get_or leaders i l).term (get_or leaders i l).id t c ≡ false) =
-          position-Some (λ (x : Leader T ID D). same_leader k x.term x.id t c) leaders j l at_j in
+          position-Some (λ (x : LeaderState T ID D). same_leader k x.term x.id t c) leaders j l at_j in
           let here : same_leader k l.term l.id t c ≡ true = rw is_l facts.1 in
           let both = leader_right k exact l.term t l.id c here in both.0
 
-      reach : (o : Option ℕ) → MatchOption o (Unit {0}) (λ i. i ≤ length l.log.items)
-          → max (unwrap_or o 0) n ≤ length l.log.items
+      reach : (o : Option ℕ) → MatchOption o (Unit {0}) (λ i. i ≤ length l.log)
+          → max (unwrap_or o 0) n ≤ length l.log
       reach None h = omega arith
       reach (Some i) h = omega arith
 
@@ -1156,17 +1156,17 @@ module _ {T ID D : Type 0} (k : Tests T ID D (Option D)) (exact : AreExact k) wh
       configs x (Some a) = at_max (λ i. hold_no_config k (drop i x)) (λ i u h. fewer_configs x i u h) a n
 
       prefixes : (p : List (Entry T D)) (o : Option ℕ)
-          → nat_eq (common_len (same_entry k) p (take (max (unwrap_or o 0) n) l.log.items)) (length p)
-          ≡ (is_prefix k p (take n l.log.items) || has_committed (same_entry k) l.log.items o p)
+          → nat_eq (common_len (same_entry k) p (take (max (unwrap_or o 0) n) l.log)) (length p)
+          ≡ (is_prefix k p (take n l.log) || has_committed (same_entry k) l.log o p)
       prefixes p None =
           let e : max 0 n ≡ n = omega arith in
-          ap (λ i. nat_eq (common_len (same_entry k) p (take i l.log.items)) (length p)) e
-          ∙ sym (is_prefix_by_len k exact p (take n l.log.items))
-          ∙ sym (or_no (is_prefix k p (take n l.log.items)))
+          ap (λ i. nat_eq (common_len (same_entry k) p (take i l.log)) (length p)) e
+          ∙ sym (is_prefix_by_len k exact p (take n l.log))
+          ∙ sym (or_no (is_prefix k p (take n l.log)))
       prefixes p (Some a) =
-          sym (is_prefix_by_len k exact p (take (max a n) l.log.items))
-          ∙ at_max (λ i. is_prefix k p (take i l.log.items)) (λ i u h. longer_prefix p l.log.items i u h) a n
-          ∙ ap (λ x. is_prefix k p (take n l.log.items) || x) (is_prefix_by_len k exact p (take a l.log.items))
+          sym (is_prefix_by_len k exact p (take (max a n) l.log))
+          ∙ at_max (λ i. is_prefix k p (take i l.log)) (λ i u h. longer_prefix p l.log i u h) a n
+          ∙ ap (λ x. is_prefix k p (take n l.log) || x) (is_prefix_by_len k exact p (take a l.log))
 
       spread : (x y z : Bool) → (x && (y || z)) ≡ ((x && y) || (x && z))
       spread true y z = refl
@@ -1178,8 +1178,8 @@ module _ {T ID D : Type 0} (k : Tests T ID D (Option D)) (exact : AreExact k) wh
       new_knows r p =
           (λ q. nat_le (k.rank (same.term q)) r && has_committed (same_entry k) (same.log q) (same.committed q) p)
           ∙ ap (λ x. nat_le (k.rank l.term) r && x) (prefixes p l.committed)
-          ∙ spread (nat_le (k.rank l.term) r) (is_prefix k p (take n l.log.items))
-          (has_committed (same_entry k) l.log.items l.committed p)
+          ∙ spread (nat_le (k.rank l.term) r) (is_prefix k p (take n l.log))
+          (has_committed (same_entry k) l.log l.committed p)
           ∙ (λ q. (nat_le (k.rank (term_is q)) r && is_prefix k p (take n (sym at_l.leader_log q)))
           || knows k.rank (same_entry k) r p (is_l q))
 
@@ -1192,35 +1192,35 @@ module _ {T ID D : Type 0} (k : Tests T ID D (Option D)) (exact : AreExact k) wh
   first_three true false d p q r o = refl
   first_three false b d p q r o = refl
 
-  pub apply_right : (es : List (TraceEvent T ID D)) (servers : List (Server T ID D))
-      (leaders : List (Leader T ID D)) (id : ID) (t : T) (c : ID) (n : ℕ) (s : Server T ID D)
-      (l : Leader T ID D) → HasSeen k es servers leaders → SeesServer k (events_in k es id) s
+  pub apply_right : (es : List (TraceEvent T ID D)) (servers : List (ServerState T ID D))
+      (leaders : List (LeaderState T ID D)) (id : ID) (t : T) (c : ID) (n : ℕ) (s : ServerState T ID D)
+      (l : LeaderState T ID D) → HasSeen k es servers leaders → SeesServer k (events_in k es id) s
       → SeesLeader k es t c l
       → broken_rule k (Applied id t c n) es ≡ option_or (apply_rule (same_entry k) s l n)
-      (unless (list_any (knows k.rank (same_entry k) (k.rank t) (take n l.log.items)) leaders) NotCommitted None)
+      (unless (list_any (knows k.rank (same_entry k) (k.rank t) (take n l.log)) leaders) NotCommitted None)
   apply_right es servers leaders id t c n s l seen sees leads =
       (λ q. unless (leads.elected q) NotElected
       (unless (nat_le n (length (leads.leader_log q))) NotWritten
       (unless (in_log q) NotInLog (unless (known q) NotCommitted None))))
-      ∙ first_three l.elected (nat_le n (length l.log.items))
-      (nat_eq (common_len (same_entry k) (take n l.log.items) s.log.items) (length (take n l.log.items)))
+      ∙ first_three l.elected (nat_le n (length l.log))
+      (nat_eq (common_len (same_entry k) (take n l.log) s.log) (length (take n l.log)))
       NotElected NotWritten NotInLog
-      (unless (list_any (knows k.rank (same_entry k) (k.rank t) (take n l.log.items)) leaders) NotCommitted None)
+      (unless (list_any (knows k.rank (same_entry k) (k.rank t) (take n l.log)) leaders) NotCommitted None)
     where
       in_log : is_prefix k (take n (leader_log_in k es t c)) (log_in k es id)
-          ≡ nat_eq (common_len (same_entry k) (take n l.log.items) s.log.items) (length (take n l.log.items))
+          ≡ nat_eq (common_len (same_entry k) (take n l.log) s.log) (length (take n l.log))
       in_log =
           (λ q. is_prefix k (take n (leads.leader_log q)) (sees.log q))
-          ∙ is_prefix_by_len k exact (take n l.log.items) s.log.items
+          ∙ is_prefix_by_len k exact (take n l.log) s.log
 
       known : is_known_committed k (k.rank t) (take n (leader_log_in k es t c)) es
-          ≡ list_any (knows k.rank (same_entry k) (k.rank t) (take n l.log.items)) leaders
+          ≡ list_any (knows k.rank (same_entry k) (k.rank t) (take n l.log)) leaders
       known =
           ap (λ x. is_known_committed k (k.rank t) (take n x) es) leads.leader_log
-          ∙ seen.see_commits (k.rank t) (take n l.log.items)
+          ∙ seen.see_commits (k.rank t) (take n l.log)
 
-  pub apply_seen : (es : List (TraceEvent T ID D)) (servers : List (Server T ID D))
-      (leaders : List (Leader T ID D)) (id : ID) (t : T) (c : ID) (n : ℕ)
+  pub apply_seen : (es : List (TraceEvent T ID D)) (servers : List (ServerState T ID D))
+      (leaders : List (LeaderState T ID D)) (id : ID) (t : T) (c : ID) (n : ℕ)
       → HasSeen k es servers leaders → broken_rule k (Applied id t c n) es ≡ None
       → (broken_rule k (Applied id t c n) es ≡ None)
       × HasSeen k (Applied id t c n ∷ es) servers leaders
@@ -1237,9 +1237,9 @@ module _ {T ID D : Type 0} (k : Tests T ID D (Option D)) (exact : AreExact k) wh
 
   -- ---- events that are refused
 
-  pub restart_refused : (es : List (TraceEvent T ID D)) (id : ID) (old servers : List (Server T ID D))
-      (leaders : List (Leader T ID D)) (i n : ℕ) (s : Server T ID D) (r : Rule)
-      → HasPlace (λ (x : Server T ID D). k.same_id x.id id) id old servers i → s ≡ get_or servers i s
+  pub restart_refused : (es : List (TraceEvent T ID D)) (id : ID) (old servers : List (ServerState T ID D))
+      (leaders : List (LeaderState T ID D)) (i n : ℕ) (s : ServerState T ID D) (r : Rule)
+      → HasPlace (λ (x : ServerState T ID D). k.same_id x.id id) id old servers i → s ≡ get_or servers i s
       → HasSeen k es old leaders → restart_rule s n ≡ Some r
       → (broken_rule k (Restarted id n) es ≡ Some r) × HasSeen k es servers leaders
   restart_refused es id old servers leaders i n s r place is seen e =
@@ -1249,10 +1249,10 @@ module _ {T ID D : Type 0} (k : Tests T ID D (Option D)) (exact : AreExact k) wh
       (restart_right es id s n at_s ∙ e, now)
 
   pub append_refused : (es : List (TraceEvent T ID D)) (id : ID) (t : T) (c : ID) (n : ℕ)
-      (sent : List (Entry T D)) (old servers : List (Server T ID D)) (leaders : List (Leader T ID D))
-      (i j : ℕ) (s : Server T ID D) (l : Leader T ID D) (r : Rule)
-      → HasPlace (λ (x : Server T ID D). k.same_id x.id id) id old servers i → s ≡ get_or servers i s
-      → position (λ (x : Leader T ID D). same_leader k x.term x.id t c) leaders ≡ Some j
+      (sent : List (Entry T D)) (old servers : List (ServerState T ID D)) (leaders : List (LeaderState T ID D))
+      (i j : ℕ) (s : ServerState T ID D) (l : LeaderState T ID D) (r : Rule)
+      → HasPlace (λ (x : ServerState T ID D). k.same_id x.id id) id old servers i → s ≡ get_or servers i s
+      → position (λ (x : LeaderState T ID D). same_leader k x.term x.id t c) leaders ≡ Some j
       → l ≡ get_or leaders j l
       → HasSeen k es old leaders → append_rule (same_entry k) s l (k.rank t) n sent ≡ Some r
       → (broken_rule k (Appended id t c n sent) es ≡ Some r) × HasSeen k es servers leaders
@@ -1264,10 +1264,10 @@ module _ {T ID D : Type 0} (k : Tests T ID D (Option D)) (exact : AreExact k) wh
       (append_right es id t c n sent s l at_s at_l ∙ e, now)
 
   pub ack_refused : (es : List (TraceEvent T ID D)) (id : ID) (t : T) (c : ID) (n : ℕ)
-      (old servers : List (Server T ID D)) (leaders : List (Leader T ID D))
-      (i j : ℕ) (s : Server T ID D) (l : Leader T ID D) (r : Rule)
-      → HasPlace (λ (x : Server T ID D). k.same_id x.id id) id old servers i → s ≡ get_or servers i s
-      → position (λ (x : Leader T ID D). same_leader k x.term x.id t c) leaders ≡ Some j
+      (old servers : List (ServerState T ID D)) (leaders : List (LeaderState T ID D))
+      (i j : ℕ) (s : ServerState T ID D) (l : LeaderState T ID D) (r : Rule)
+      → HasPlace (λ (x : ServerState T ID D). k.same_id x.id id) id old servers i → s ≡ get_or servers i s
+      → position (λ (x : LeaderState T ID D). same_leader k x.term x.id t c) leaders ≡ Some j
       → l ≡ get_or leaders j l
       → HasSeen k es old leaders → ack_rule (same_entry k) s l (k.rank t) n ≡ Some r
       → (broken_rule k (Acked id t c n) es ≡ Some r) × HasSeen k es servers leaders
@@ -1279,10 +1279,10 @@ module _ {T ID D : Type 0} (k : Tests T ID D (Option D)) (exact : AreExact k) wh
       (ack_right es id t c n s l at_s at_l ∙ e, now)
 
   pub grant_refused : (es : List (TraceEvent T ID D)) (id : ID) (t : T) (c : ID)
-      (old servers : List (Server T ID D)) (leaders : List (Leader T ID D))
-      (i j : ℕ) (s : Server T ID D) (l : Leader T ID D) (r : Rule)
-      → HasPlace (λ (x : Server T ID D). k.same_id x.id id) id old servers i → s ≡ get_or servers i s
-      → position (λ (x : Leader T ID D). same_leader k x.term x.id t c) leaders ≡ Some j
+      (old servers : List (ServerState T ID D)) (leaders : List (LeaderState T ID D))
+      (i j : ℕ) (s : ServerState T ID D) (l : LeaderState T ID D) (r : Rule)
+      → HasPlace (λ (x : ServerState T ID D). k.same_id x.id id) id old servers i → s ≡ get_or servers i s
+      → position (λ (x : LeaderState T ID D). same_leader k x.term x.id t c) leaders ≡ Some j
       → l ≡ get_or leaders j l
       → HasSeen k es old leaders → grant_rule k.rank k.same_id s l id (k.rank t) c ≡ Some r
       → (broken_rule k (Granted id t c) es ≡ Some r) × HasSeen k es servers leaders
@@ -1294,9 +1294,9 @@ module _ {T ID D : Type 0} (k : Tests T ID D (Option D)) (exact : AreExact k) wh
       (grant_right es id t c s l at_s at_l ∙ e, now)
 
   pub campaign_refused : (es : List (TraceEvent T ID D)) (t : T) (c : ID)
-      (old servers : List (Server T ID D)) (leaders : List (Leader T ID D)) (i : ℕ) (s : Server T ID D)
-      → HasPlace (λ (x : Server T ID D). k.same_id x.id c) c old servers i → s ≡ get_or servers i s
-      → position (λ (x : Leader T ID D). same_leader k x.term x.id t c) leaders ≡ None
+      (old servers : List (ServerState T ID D)) (leaders : List (LeaderState T ID D)) (i : ℕ) (s : ServerState T ID D)
+      → HasPlace (λ (x : ServerState T ID D). k.same_id x.id c) c old servers i → s ≡ get_or servers i s
+      → position (λ (x : LeaderState T ID D). same_leader k x.term x.id t c) leaders ≡ None
       → HasSeen k es old leaders → k.rank t ≤ s.term
       → (broken_rule k (Campaigned c t) es ≡ Some PassedTerm) × HasSeen k es servers leaders
   campaign_refused es t c old servers leaders i s place is absent seen below =
@@ -1309,21 +1309,21 @@ module _ {T ID D : Type 0} (k : Tests T ID D (Option D)) (exact : AreExact k) wh
       (campaign_right es t c s at_s none ∙ free, now)
 
   pub campaign_again : (es : List (TraceEvent T ID D)) (t : T) (c : ID)
-      (servers : List (Server T ID D)) (leaders : List (Leader T ID D)) (j : ℕ)
-      → position (λ (x : Leader T ID D). same_leader k x.term x.id t c) leaders ≡ Some j
+      (servers : List (ServerState T ID D)) (leaders : List (LeaderState T ID D)) (j : ℕ)
+      → position (λ (x : LeaderState T ID D). same_leader k x.term x.id t c) leaders ≡ Some j
       → HasSeen k es servers leaders
       → (broken_rule k (Campaigned c t) es ≡ Some CampaignedTwice) × HasSeen k es servers leaders
   campaign_again es t c servers leaders j at_j seen =
-      let found : (l : Leader T ID D) × (find_leader k leaders t c ≡ Some l) =
-      found_some (λ (x : Leader T ID D). same_leader k x.term x.id t c) leaders j at_j in
+      let found : (l : LeaderState T ID D) × (find_leader k leaders t c ≡ Some l) =
+      found_some (λ (x : LeaderState T ID D). same_leader k x.term x.id t c) leaders j at_j in
       let at_l : SeesLeader k es t c found.0 =
-      subst (λ (o : Option (Leader T ID D)). MatchOption o (SeesNoLeader k es t c) (SeesLeader k es t c))
+      subst (λ (o : Option (LeaderState T ID D)). MatchOption o (SeesNoLeader k es t c) (SeesLeader k es t c))
       found.1 (seen.see_leaders t c) in
       (campaign_twice es t c found.0 at_l, seen)
 
-  pub no_leader : (es : List (TraceEvent T ID D)) (t : T) (c : ID) (servers : List (Server T ID D))
-      (leaders : List (Leader T ID D))
-      → position (λ (x : Leader T ID D). same_leader k x.term x.id t c) leaders ≡ None
+  pub no_leader : (es : List (TraceEvent T ID D)) (t : T) (c : ID) (servers : List (ServerState T ID D))
+      (leaders : List (LeaderState T ID D))
+      → position (λ (x : LeaderState T ID D). same_leader k x.term x.id t c) leaders ≡ None
       → HasSeen k es servers leaders → (is_elected k es t c ≡ false)
       × (has_campaigned k t c es ≡ false)
       × ((v : ID) (n : ℕ) → has_acked k t c n (events_in k es v) ≡ false)

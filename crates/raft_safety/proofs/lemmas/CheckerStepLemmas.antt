@@ -1,23 +1,30 @@
--- The checker's steps as its code takes them. An element of a list that is read and borrowed has two
--- names there.
+-- The checker's steps as its code takes them, by what its parts stand for. An element of a list that
+-- is read and borrowed has two names there.
 use Rattle.std.specs.Prelude.{
   ◌≡◌,
+  ◌≢◌,
+  ◌⊎◌,
   ◌+◌,
   ◌<◌,
   ◌≤◌,
   ℕ,
+  zero,
+  suc,
   Bool,
   true,
   false,
+  not,
   ◌||◌,
   ◌&&◌,
   nat_le,
   nat_lt,
   min,
   max,
+  if◌then◌else◌,
   Option,
   Some,
   None,
+  is_some,
   List,
   [],
   ◌∷◌,
@@ -29,12 +36,24 @@ use Rattle.std.specs.Prelude.{
   get_or,
   set,
 }
-use Rattle.std.specs.List.{position, IsDistinct, list_any}
+use Rattle.std.specs.List.{find, position, position_or_len, IsDistinct, list_any}
 use Rattle.std.specs.Option.{unwrap_or, option_or}
 use Rattle.std.specs.Set.{is_member}
-use Rattle.std.proofs.Common.{refl, sym, ap, ◌∙◌, subst, arith}
-use Rattle.std.proofs.lemmas.Bool.{leb-true}
-use Rattle.std.proofs.lemmas.List.{get_or_default}
+use Rattle.std.proofs.Common.{refl, sym, ap, ◌∙◌, subst, inl, inr, arith}
+use Rattle.std.proofs.lemmas.Bool.{cases_eq, cases_lt, le-leb, leb-true}
+use Rattle.std.proofs.lemmas.List.{
+  get_or_append_left,
+  get_or_default,
+  get_or_push,
+  get_or-set_same,
+  get_or-set_other,
+  set-get_or,
+  length-map,
+  length-set,
+  length_push,
+  map-append,
+  map-set,
+}
 use Rattle.std.proofs.lemmas.List.Quantifiers.{position-Some}
 use Rattle.raft_safety.specs.Log.{Entry}
 use Rattle.raft_safety.specs.Configs.{effective_config}
@@ -51,15 +70,19 @@ use Rattle.raft_safety.specs.Trace.{
   Committed,
   Applied,
   events_in,
+  has_campaigned,
+  is_elected,
   same_entry,
   same_leader,
-  hold_no_config,
   is_quorum_of_log,
   unless,
   broken_rule,
 }
 use Rattle.raft_safety.specs.Inner.CheckerState.{
+  ServerState,
+  LeaderState,
   config_in,
+  no_config_in,
   write_rule,
   commit_rule,
   append_rule,
@@ -67,23 +90,34 @@ use Rattle.raft_safety.specs.Inner.CheckerState.{
   restart_rule,
   grant_rule,
   knows,
-  has_committed,
   has_acked_to,
-  config_committed,
   common_len,
-  kept_from,
   kept_after,
   at_most,
+  IsAdded,
   HasPlace,
   apply_rule,
 }
-use Rattle.raft_safety.specs.Checker.{HasSeen}
+use Rattle.raft_safety.specs.Inner.Kept.{
+  HaveLogs,
+  IsAt,
+  IsPushed,
+  Parts,
+  leader_in,
+  leaders_in,
+  server_in,
+  servers_in,
+}
+use Rattle.raft_safety.specs.Inner.Logs.{AllLogs, AreLogs, HasConfig, IsChild, IsExact, config_at, log_at, no_logs}
 use Rattle.raft_safety.specs.Inner.Seen.{SeesServer, SeesLeader}
+use Rattle.raft_safety.specs.Checker.{HasSeen, Keeps}
 use Rattle.raft_safety.specs.declared.rule.Rule.TheVariants.{
   NoCampaign,
   NotElected,
   NoQuorum,
   NotCommitted,
+  PassedTerm,
+  CampaignedTwice,
   EarlierTerm,
   CountedEarly,
   NotWritten,
@@ -91,535 +125,1007 @@ use Rattle.raft_safety.specs.declared.rule.Rule.TheVariants.{
 use Rattle.raft_safety.specs.declared.rule.Rule.{Rule}
 use Rattle.raft_safety.specs.declared.checker.server.Server.{Server}
 use Rattle.raft_safety.specs.declared.checker.leader.Leader.{Leader}
-use Rattle.raft_safety.proofs.lemmas.CheckedServerLemmas.{see_set}
-use Rattle.raft_safety.proofs.lemmas.CheckedLeaderLemmas.{any_set_or, see_leader_set}
+use Rattle.raft_safety.proofs.lemmas.TestLemmas.{entry_itself, entry_right}
+use Rattle.raft_safety.proofs.lemmas.CheckedLeaderLemmas.{found_some}
 use Rattle.raft_safety.proofs.lemmas.CheckerLemmas.{
-  write_right,
-  write_seen,
-  commit_right,
-  commit_first,
-  commit_then,
-  commit_seen,
+  LeaderIs,
+  ack_right,
+  ack_seen,
+  append_right,
+  append_seen,
   apply_right,
   apply_seen,
-  no_leader,
-  LeaderIs,
-  server_seen,
-  leader_seen,
-  leader_place,
-  see_place,
-  restart_seen,
-  append_first,
-  append_seen,
-  ack_seen,
+  campaign_again,
+  campaign_refused,
+  campaign_seen,
+  commit_first,
+  commit_right,
+  commit_seen,
+  commit_then,
+  grant_right,
   grant_seen,
   late_vote_seen,
-  campaign_seen,
+  leader_seen,
+  no_leader,
+  restart_right,
+  restart_seen,
+  see_place,
+  server_seen,
+  write_right,
+  write_seen,
 }
+
+-- ---- lists
 
 pub same_item : {X : Type 0} (xs : List X) (i : ℕ) (x y : X) → i < length xs → x ≡ get_or xs i x
     → y ≡ get_or xs i y → x ≡ y
 same_item xs i x y h a b = a ∙ get_or_default xs i x y h ∙ sym b
 
--- an append that breaks no rule keeps entries that the server has
-pub append_fits : {T N D : Type 0} (same : Entry T D → Entry T D → Bool) (servers : List (Server T N D))
-    (i : ℕ) (s0 s : Server T N D) (l : Leader T N D) (r n : ℕ) (sent : List (Entry T D))
-    → i < length servers → s0 ≡ get_or servers i s0 → s ≡ get_or servers i s
-    → append_rule same s0 l r n sent ≡ None → n ≤ length s.log.items
-append_fits {T} {N} {D} same servers i s0 s l r n sent h is0 is free =
-    subst (λ (x : Server T N D). n ≤ length x.log.items) (same_item servers i s0 s h is0 is)
-    (append_first same s0 l r n sent free).1
+module _ {X Y : Type 0} (f : X → Y) where
+  get_map : (xs : List X) (i : ℕ) (d : X) → get_or (map f xs) i (f d) ≡ f (get_or xs i d)
+  get_map [] i d = refl
+  get_map (x ∷ xs) zero d = refl
+  get_map (x ∷ xs) (suc i) d = get_map xs i d
+
+  pub item_map : (xs : List X) (i : ℕ) (x : X) → x ≡ get_or xs i x → f x ≡ get_or (map f xs) i (f x)
+  item_map xs i x e = ap f e ∙ sym (get_map xs i x)
+
+  place_or_len_map : (p : Y → Bool) (xs : List X)
+      → position_or_len p (map f xs) ≡ position_or_len (λ x. p (f x)) xs
+  place_or_len_map p [] = refl
+  place_or_len_map p (x ∷ xs) = ap (λ n. if not (p (f x)) then 1 + n else 0) (place_or_len_map p xs)
+
+  pub place_map : (p : Y → Bool) (xs : List X) → position p (map f xs) ≡ position (λ x. p (f x)) xs
+  place_map p xs =
+      λ q. if nat_lt (place_or_len_map p xs q) (length-map xs f q) then Some (place_or_len_map p xs q) else None
+
+-- what is kept of servers and leaders is the same if their logs are
+module _ {T N D : Type 0} (old new : AllLogs T D) where
+  same_servers : (xs : List (Server N))
+      → ((i : ℕ) (s : Server N) → i < length xs → s ≡ get_or xs i s → log_at new s.log ≡ log_at old s.log)
+      → map (server_in {T = T} {D = D} new) xs ≡ map (server_in old) xs
+  same_servers [] same = refl
+  same_servers (x ∷ xs) same =
+      let here : log_at new x.log ≡ log_at old x.log = same 0 x (omega arith) refl in
+      let rest : map (server_in {T = T} {D = D} new) xs ≡ map (server_in old) xs =
+      same_servers xs (λ i s h e. same (suc i) s (omega (arith, h)) e) in
+      λ q. record {
+        id = x.id;
+        term = x.term;
+        voted = x.voted;
+        log = here q;
+        durable = x.durable;
+        kept = x.kept.items;
+      } ∷ rest q
+
+  same_leaders : (xs : List (Leader T N))
+      → ((i : ℕ) (l : Leader T N) → i < length xs → l ≡ get_or xs i l → log_at new l.log ≡ log_at old l.log)
+      → map (leader_in new) xs ≡ map (leader_in old) xs
+  same_leaders [] same = refl
+  same_leaders (x ∷ xs) same =
+      let here : log_at new x.log ≡ log_at old x.log = same 0 x (omega arith) refl in
+      let rest : map (leader_in new) xs ≡ map (leader_in old) xs =
+      same_leaders xs (λ i l h e. same (suc i) l (omega (arith, h)) e) in
+      λ q. record {
+        term = x.term;
+        id = x.id;
+        start = x.start;
+        log = here q;
+        voters = x.voters.items;
+        elected = x.elected;
+        acked = x.acked.items;
+        committed = x.committed;
+      } ∷ rest q
+
+-- ---- which contents hold a config
+
+module _ {D : Type 0} (holds : D → Bool) where
+  pub some_config : (d : D) → is_some (config_in holds d) ≡ holds d
+  some_config d = go (holds d)
+    where
+      go : (b : Bool) → is_some (if b then Some (Some d) else None) ≡ b
+      go true = refl
+      go false = refl
+
+  pub logs_by : {T : Type 0} (t : AllLogs T D) → AreLogs (λ d. is_some (config_in holds d)) t → AreLogs holds t
+  logs_by t are = subst (λ (f : D → Bool). AreLogs f t) (λ q d. some_config d q) are
+
+-- ---- the parts of a checker
+
+module _ {T N D : Type 0} where
+  -- other servers, another server or another leader
+  abbrev pub with_servers : Parts T N D → List (Server N) → Parts T N D
+  with_servers p new = record { logs = p.logs; servers = new; leaders = p.leaders }
+
+  abbrev pub with_server : Parts T N D → ℕ → Server N → Parts T N D
+  with_server p i s = with_servers p (set p.servers i s)
+
+  abbrev pub with_leaders : Parts T N D → List (Leader T N) → Parts T N D
+  with_leaders p new = record { logs = p.logs; servers = p.servers; leaders = new }
+
+  abbrev pub with_leader : Parts T N D → ℕ → Leader T N → Parts T N D
+  with_leader p j l = with_leaders p (set p.leaders j l)
+
+  have_server : (p : Parts T N D) (i : ℕ) (new : Server N) → HaveLogs p → i < length p.servers
+      → new.log < length p.logs.logs → HaveLogs (with_server p i new)
+  have_server p i new have at within = record {
+    of_servers = λ j s h e. go j s (cases_eq j i) h e;
+    of_leaders = have.of_leaders;
+  }
+    where
+      go : (j : ℕ) (s : Server N) → (j ≡ i) ⊎ (j ≢ i) → j < length (set p.servers i new)
+          → s ≡ get_or (set p.servers i new) j s → s.log < length p.logs.logs
+      go j s (inl q) h e =
+          let is : s ≡ new = e ∙ ap (λ m. get_or (set p.servers i new) m s) q ∙ get_or-set_same p.servers i new s at in
+          subst (λ (x : Server N). x.log < length p.logs.logs) (sym is) within
+      go j s (inr q) h e =
+          have.of_servers j s (rw (length-set p.servers i new) at h)
+          (e ∙ get_or-set_other p.servers i j new s q)
+
+  have_leader : (p : Parts T N D) (i : ℕ) (new : Leader T N) → HaveLogs p → i < length p.leaders
+      → new.log < length p.logs.logs → HaveLogs (with_leader p i new)
+  have_leader p i new have at within = record {
+    of_servers = have.of_servers;
+    of_leaders = λ j l h e. go j l (cases_eq j i) h e;
+  }
+    where
+      go : (j : ℕ) (l : Leader T N) → (j ≡ i) ⊎ (j ≢ i) → j < length (set p.leaders i new)
+          → l ≡ get_or (set p.leaders i new) j l → l.log < length p.logs.logs
+      go j l (inl q) h e =
+          let is : l ≡ new = e ∙ ap (λ m. get_or (set p.leaders i new) m l) q ∙ get_or-set_same p.leaders i new l at in
+          subst (λ (x : Leader T N). x.log < length p.logs.logs) (sym is) within
+      go j l (inr q) h e =
+          have.of_leaders j l (rw (length-set p.leaders i new) at h)
+          (e ∙ get_or-set_other p.leaders i j new l q)
+
+  have_more : (p : Parts T N D) (new : Leader T N) → HaveLogs p → new.log < length p.logs.logs
+      → HaveLogs (with_leaders p (new ∷ p.leaders))
+  have_more p new have within = record {
+    of_servers = have.of_servers;
+    of_leaders = go;
+  }
+    where
+      go : (j : ℕ) (l : Leader T N) → j < length (new ∷ p.leaders) → l ≡ get_or (new ∷ p.leaders) j l
+          → l.log < length p.logs.logs
+      go zero l h e = subst (λ (x : Leader T N). x.log < length p.logs.logs) (sym e) within
+      go (suc j) l h e = have.of_leaders j l (omega (arith, h)) e
+
+-- ---- the beginning
+
+module _ {D : Type 0} (holds : D → Bool) (T : Type 0) where
+  no_config : (n : ℕ) → no_config_in {T = T} holds (drop n []) ≡ nat_le 0 n
+  no_config zero = sym (le-leb 0 0 (omega arith))
+  no_config (suc n) = sym (le-leb 0 (suc n) (omega arith))
+
+  first_config : (i : ℕ) → i < 1 → config_at (no_logs {T = T} {D = D}) i ≤ i
+  first_config zero h = omega arith
+  first_config (suc i) h = absurd (omega (arith, h))
+
+  has_no_config : (i : ℕ) → i < 1
+      → HasConfig holds (log_at (no_logs {T = T} {D = D}) (config_at (no_logs {T = T} {D = D}) i))
+      (log_at (no_logs {T = T} {D = D}) i)
+  has_no_config zero h = record { content = refl; since = no_config }
+  has_no_config (suc i) h = absurd (omega (arith, h))
+
+  no_logs_are : AreLogs holds (no_logs {T = T} {D = D})
+  no_logs_are = record {
+    some = omega arith;
+    empty = refl;
+    distinct = λ i j h g e. omega (arith, h, g);
+    same_len = refl;
+    config_first = first_config;
+    config = has_no_config;
+  }
+
+module _ {T ID D : Type 0} (k : Tests T ID D (Option D)) where
+  pub starts : k.intersect k.initial k.initial ≡ true → Keeps k [] (record { logs = no_logs; servers = []; leaders = [] })
+  starts intersect = record {
+    are_logs = no_logs_are (λ d. is_some (k.config_of d)) T;
+    have_logs = record {
+      of_servers = λ i s h e. absurd (omega (arith, h));
+      of_leaders = λ i l h e. absurd (omega (arith, h));
+    };
+    seen = record {
+      allowed = intersect;
+      see_servers = λ id. refl;
+      see_leaders = λ t c. record {
+        campaigned = refl;
+        candidate_log = refl;
+        leader_log = refl;
+        voted = λ v. refl;
+        acked = λ v n. refl;
+        committed = λ log. refl;
+      };
+      see_commits = λ r p. refl;
+    };
+  }
 
 module _ {T ID D : Type 0} (k : Tests T ID D (Option D)) (exact : AreExact k) where
-  place_within : {X : Type 0} (p : X → Bool) (xs : List X) (i : ℕ) (d : X) → position p xs ≡ Some i
+  pub exact_entries : IsExact (same_entry k)
+  exact_entries = record { right = entry_right k exact; itself = entry_itself k exact }
+
+  abbrev is_server : ID → Server ID → Bool
+  is_server id s = k.same_id s.id id
+
+  abbrev is_leader : T → ID → Leader T ID → Bool
+  is_leader t c l = same_leader k l.term l.id t c
+
+  within_of : {X : Type 0} (p : X → Bool) (xs : List X) (i : ℕ) (d : X) → position p xs ≡ Some i
       → i < length xs
-  place_within {X} p xs i d e =
+  within_of {X} p xs i d e =
       let facts : (i < length xs) × (p (get_or xs i d) ≡ true)
       × ((j : ℕ) → j < i → p (get_or xs j d) ≡ false) = position-Some p xs i d e in facts.0
 
-  -- a server is replaced by an equal one
-  pub same_server : (es : List (TraceEvent T ID D)) (id : ID) (old servers : List (Server T ID D))
-      (leaders : List (Leader T ID D)) (i : ℕ) (s new : Server T ID D)
-      → HasPlace (λ (x : Server T ID D). k.same_id x.id id) id old servers i → s ≡ get_or servers i s
-      → HasSeen k es old leaders → new.id ≡ s.id → new.term ≡ s.term → new.voted ≡ s.voted → new.log.items ≡ s.log.items
-      → new.durable ≡ s.durable → new.kept.items ≡ s.kept.items
-      → HasSeen k es (set servers i new) leaders
-  same_server es id old servers leaders i s new place is seen same_id term vote log dur kept = record {
-    allowed = now.allowed;
-    see_servers =
-        see_set k exact es es servers i new id place.0 is_id now.see_servers (λ r apart. refl)
-        (record {
-          term = at_s.term ∙ sym term;
-          voted = at_s.voted ∙ sym vote;
-          log = at_s.log ∙ sym log;
-          durable = at_s.durable ∙ sym dur;
-          kept = λ r h. at_s.kept r (rw (← term) h) ∙ ap (λ ks. kept_from 0 ks r) (sym kept);
-        });
-    see_leaders = now.see_leaders;
-    see_commits = now.see_commits;
+  -- ---- a server is found or added
+
+  at_place : (p : Parts T ID D) (id : ID) (new : List (Server ID)) (i : ℕ) → log_at p.logs 0 ≡ []
+      → IsAt (is_server id) id p.servers new i
+      → HasPlace (λ (x : ServerState T ID D). k.same_id x.id id) id (servers_in p) (map (server_in p.logs) new) i
+  at_place p id new i empty at =
+      (place_map (server_in p.logs) (λ (x : ServerState T ID D). k.same_id x.id id) new ∙ at.0, go at.1)
+    where
+      go : (new ≡ p.servers) ⊎ IsPushed (is_server id) id p.servers new
+          → (map (server_in p.logs) new ≡ servers_in p)
+          ⊎ IsAdded (λ (x : ServerState T ID D). k.same_id x.id id) id (servers_in p) (map (server_in p.logs) new)
+      go (inl e) = inl (ap (map (server_in p.logs)) e)
+      go (inr is) = inr (record {
+        absent = place_map (server_in p.logs) (λ (x : ServerState T ID D). k.same_id x.id id) p.servers ∙ is.absent;
+        server = server_in p.logs is.server;
+        is_new = record {
+          is_id = is.is_new.is_id;
+          term = is.is_new.term;
+          voted = is.is_new.voted;
+          log = ap (log_at p.logs) is.is_new.log ∙ empty;
+          durable = is.is_new.durable;
+          kept = is.is_new.kept;
+        };
+        added = ap (map (server_in p.logs)) is.added ∙ map-append (server_in p.logs) p.servers (is.server ∷ []);
+      })
+
+  have_at : (p : Parts T ID D) (id : ID) (new : List (Server ID)) (i : ℕ) → 0 < length p.logs.logs
+      → HaveLogs p → IsAt (is_server id) id p.servers new i → HaveLogs (with_servers p new)
+  have_at p id new i some have at = record {
+    of_servers = go at.1;
+    of_leaders = have.of_leaders;
   }
     where
-      now : HasSeen k es servers leaders
-      now = see_place k exact es id old servers i leaders place seen
+      go : (new ≡ p.servers) ⊎ IsPushed (is_server id) id p.servers new
+          → (j : ℕ) (s : Server ID) → j < length new → s ≡ get_or new j s → s.log < length p.logs.logs
+      go (inl e) j s h is = have.of_servers j s (rw e at h) (is ∙ ap (λ (l : List (Server ID)). get_or l j s) e)
+      go (inr a) j s h is = old_or_new (cases_lt j (length p.servers))
+        where
+          read : s ≡ get_or (p.servers ++ a.server ∷ []) j s
+          read = is ∙ ap (λ (l : List (Server ID)). get_or l j s) a.added
 
-      at_s : SeesServer k (events_in k es id) s
-      at_s = rw is (server_seen k exact es servers id i s now.see_servers place.0)
+          more : length new ≡ length p.servers + 1
+          more = ap length a.added ∙ length_push p.servers a.server
 
-      facts : (i < length servers) × (k.same_id (get_or servers i s).id id ≡ true)
-          × ((j : ℕ) → j < i → k.same_id (get_or servers j s).id id ≡ false)
-      facts = position-Some (λ (x : Server T ID D). k.same_id x.id id) servers i s place.0
+          old_or_new : (j < length p.servers) ⊎ (length p.servers ≤ j) → s.log < length p.logs.logs
+          old_or_new (inl lt) =
+              have.of_servers j s lt (read ∙ get_or_append_left p.servers (a.server ∷ []) s j lt)
+          old_or_new (inr ge) =
+              let last : length p.servers ≡ j = omega (arith, ge, h, more) in
+              let it : s ≡ a.server = read ∙ get_or_push p.servers a.server s j last in
+              let none : s.log ≡ 0 = ap (λ (x : Server ID). x.log) it ∙ a.is_new.log in
+              omega (arith, none, some)
 
-      is_id : k.same_id new.id id ≡ true
-      is_id = rw same_id (rw is facts.1)
+  -- nothing changes when a server is found or added
+  pub keeps_at : (es : List (TraceEvent T ID D)) (id : ID) (p : Parts T ID D) (new : List (Server ID))
+      (i : ℕ) → IsAt (is_server id) id p.servers new i → Keeps k es p → Keeps k es (with_servers p new)
+  keeps_at es id p new i at keeps = record {
+    are_logs = keeps.are_logs;
+    have_logs = have_at p id new i keeps.are_logs.some keeps.have_logs at;
+    seen = see_place k exact es id (servers_in p) (map (server_in p.logs) new) i (leaders_in p)
+        (at_place p id new i keeps.are_logs.empty at) keeps.seen;
+  }
+
+  -- ---- what is known of a server and a leader
+
+  pub server_place : (p : Parts T ID D) (id : ID) (i : ℕ) → position (is_server id) p.servers ≡ Some i
+      → position (λ (x : ServerState T ID D). k.same_id x.id id) (servers_in p) ≡ Some i
+  server_place p id i at =
+      place_map (server_in p.logs) (λ (x : ServerState T ID D). k.same_id x.id id) p.servers ∙ at
+
+  pub leader_place_in : (p : Parts T ID D) (t : T) (c : ID) (o : Option ℕ)
+      → position (is_leader t c) p.leaders ≡ o
+      → position (λ (x : LeaderState T ID D). same_leader k x.term x.id t c) (leaders_in p) ≡ o
+  leader_place_in p t c o at =
+      place_map (leader_in p.logs) (λ (x : LeaderState T ID D). same_leader k x.term x.id t c) p.leaders ∙ at
+
+  pub sees_server_at : (es : List (TraceEvent T ID D)) (p : Parts T ID D) (id : ID) (i : ℕ)
+      (s : Server ID) → position (is_server id) p.servers ≡ Some i → s ≡ get_or p.servers i s
+      → Keeps k es p → SeesServer k (events_in k es id) (server_in p.logs s)
+  sees_server_at es p id i s at is keeps =
+      rw (item_map (server_in p.logs) p.servers i s is)
+      (server_seen k exact es (servers_in p) id i (server_in p.logs s) keeps.seen.see_servers (server_place p id i at))
+
+  pub sees_leader_at : (es : List (TraceEvent T ID D)) (p : Parts T ID D) (t : T) (c : ID) (j : ℕ)
+      (l : Leader T ID) → position (is_leader t c) p.leaders ≡ Some j → l ≡ get_or p.leaders j l
+      → Keeps k es p → SeesLeader k es t c (leader_in p.logs l)
+  sees_leader_at es p t c j l at is keeps =
+      rw (item_map (leader_in p.logs) p.leaders j l is)
+      (leader_seen k exact es (leaders_in p) t c j (leader_in p.logs l) keeps.seen.see_leaders (leader_place_in p t c (Some j) at))
+
+  -- ---- what is kept after a change
+
+  keeps_server : (es : List (TraceEvent T ID D)) (p : Parts T ID D) (i : ℕ) (new : Server ID)
+      → i < length p.servers → new.log < length p.logs.logs
+      → HasSeen k es (set (servers_in p) i (server_in p.logs new)) (leaders_in p)
+      → (old : List (TraceEvent T ID D)) → Keeps k old p → Keeps k es (with_server p i new)
+  keeps_server es p i new at within seen old keeps = record {
+    are_logs = keeps.are_logs;
+    have_logs = have_server p i new keeps.have_logs at within;
+    seen = subst (λ (l : List (ServerState T ID D)). HasSeen k es l (leaders_in p))
+        (sym (map-set (server_in p.logs) p.servers i new)) seen;
+  }
+
+  keeps_leader : (es : List (TraceEvent T ID D)) (p : Parts T ID D) (j : ℕ) (new : Leader T ID)
+      → j < length p.leaders → new.log < length p.logs.logs
+      → HasSeen k es (servers_in p) (set (leaders_in p) j (leader_in p.logs new))
+      → (old : List (TraceEvent T ID D)) → Keeps k old p → Keeps k es (with_leader p j new)
+  keeps_leader es p j new at within seen old keeps = record {
+    are_logs = keeps.are_logs;
+    have_logs = have_leader p j new keeps.have_logs at within;
+    seen = subst (λ (l : List (LeaderState T ID D)). HasSeen k es (servers_in p) l)
+        (sym (map-set (leader_in p.logs) p.leaders j new)) seen;
+  }
+
+  log_of_server : (es : List (TraceEvent T ID D)) (p : Parts T ID D) (i : ℕ) (s : Server ID)
+      → Keeps k es p → i < length p.servers → s ≡ get_or p.servers i s → s.log < length p.logs.logs
+  log_of_server es p i s keeps at is = keeps.have_logs.of_servers i s at is
+
+  -- ---- restarts
+
+  pub restart_done : (es : List (TraceEvent T ID D)) (id : ID) (p : Parts T ID D) (i n : ℕ)
+      (s0 s new : Server ID) → position (is_server id) p.servers ≡ Some i
+      → s0 ≡ get_or p.servers i s0 → s ≡ get_or p.servers i s → Keeps k es p
+      → restart_rule (server_in p.logs s0) n ≡ None
+      → new.id ≡ s.id → new.term ≡ s.term → new.voted ≡ s.voted
+      → log_at p.logs new.log ≡ take n (log_at p.logs s.log) → new.log ≤ s.log
+      → new.durable ≡ min s.durable n → new.kept.items ≡ map (at_most n) s.kept.items
+      → (broken_rule k (Restarted id n) es ≡ None) × Keeps k (Restarted id n ∷ es) (with_server p i new)
+  restart_done es id p i n s0 s new at is0 is keeps free same_id term vote log earlier dur kept =
+      let within : i < length p.servers = within_of (is_server id) p.servers i s at in
+      let one : s0 ≡ s = same_item p.servers i s0 s within is0 is in
+      let old_log : s.log < length p.logs.logs = log_of_server es p i s keeps within is in
+      let done = restart_seen k exact es id (servers_in p) (leaders_in p) i n (server_in p.logs s) (server_in p.logs new)
+      (server_place p id i at) (item_map (server_in p.logs) p.servers i s is) keeps.seen
+      (subst (λ (x : Server ID). restart_rule (server_in p.logs x) n ≡ None) one free)
+      same_id term vote log dur kept in
+      (done.0, keeps_server (Restarted id n ∷ es) p i new within (omega (arith, old_log, earlier)) done.1 es keeps)
+
+  pub restart_refused : (es : List (TraceEvent T ID D)) (id : ID) (p : Parts T ID D) (i n : ℕ)
+      (s : Server ID) (r : Rule) → position (is_server id) p.servers ≡ Some i
+      → s ≡ get_or p.servers i s → Keeps k es p → restart_rule (server_in p.logs s) n ≡ Some r
+      → (broken_rule k (Restarted id n) es ≡ Some r) × Keeps k es p
+  restart_refused es id p i n s r at is keeps broken =
+      (restart_right k exact es id (server_in p.logs s) n (sees_server_at es p id i s at is keeps) ∙ broken, keeps)
+
+  -- ---- entries that a server takes
+
+  pub append_refused : (es : List (TraceEvent T ID D)) (id : ID) (t : T) (c : ID) (n : ℕ)
+      (sent : List (Entry T D)) (p : Parts T ID D) (i j : ℕ) (s : Server ID) (l : Leader T ID) (r : Rule)
+      → position (is_server id) p.servers ≡ Some i → s ≡ get_or p.servers i s
+      → position (is_leader t c) p.leaders ≡ Some j → l ≡ get_or p.leaders j l → Keeps k es p
+      → append_rule (same_entry k) (server_in p.logs s) (leader_in p.logs l) (k.rank t) n sent ≡ Some r
+      → (broken_rule k (Appended id t c n sent) es ≡ Some r) × Keeps k es p
+  append_refused es id t c n sent p i j s l r at is at_j is_l keeps broken = (
+    append_right k exact es id t c n sent (server_in p.logs s) (leader_in p.logs l)
+        (sees_server_at es p id i s at is keeps) (sees_leader_at es p t c j l at_j is_l keeps) ∙ broken,
+    keeps,
+  )
+
+  pub append_done : (es : List (TraceEvent T ID D)) (id : ID) (t : T) (c : ID) (n same : ℕ)
+      (sent : List (Entry T D)) (p : Parts T ID D) (i j : ℕ) (s0 s new : Server ID) (l0 l : Leader T ID)
+      → position (is_server id) p.servers ≡ Some i
+      → s0 ≡ get_or p.servers i s0 → s ≡ get_or p.servers i s
+      → position (is_leader t c) p.leaders ≡ Some j
+      → l0 ≡ get_or p.leaders j l0 → l ≡ get_or p.leaders j l → Keeps k es p
+      → append_rule (same_entry k) (server_in p.logs s0) (leader_in p.logs l0) (k.rank t) n sent ≡ None
+      → same ≡ n + common_len (same_entry k) (drop n (log_at p.logs s.log)) sent
+      → (append_rule (same_entry k) (server_in p.logs s) (leader_in p.logs l) (k.rank t) n sent ≡ None
+      → log_at p.logs new.log ≡ take n (log_at p.logs s.log) ++ sent)
+      → (new.log ≤ s.log) ⊎ (new.log ≤ l.log)
+      → new.id ≡ s.id → new.term ≡ max s.term (k.rank t) → new.voted ≡ s.voted
+      → new.durable ≡ min s.durable same
+      → new.kept.items ≡ map (at_most same) (kept_after s.kept.items s.term (length (log_at p.logs s.log)) (k.rank t))
+      → (broken_rule k (Appended id t c n sent) es ≡ None)
+      × Keeps k (Appended id t c n sent ∷ es) (with_server p i new)
+  append_done es id t c n same sent p i j s0 s new l0 l at is0 is at_j is_l0 is_l keeps free is_same log earlier same_id term
+      vote dur kept =
+      let within : i < length p.servers = within_of (is_server id) p.servers i s at in
+      let within_j : j < length p.leaders = within_of (is_leader t c) p.leaders j l at_j in
+      let one : s0 ≡ s = same_item p.servers i s0 s within is0 is in
+      let other : l0 ≡ l = same_item p.leaders j l0 l within_j is_l0 is_l in
+      let now : append_rule (same_entry k) (server_in p.logs s) (leader_in p.logs l) (k.rank t) n sent ≡ None =
+      subst (λ (x : Server ID). append_rule (same_entry k) (server_in p.logs x) (leader_in p.logs l) (k.rank t) n sent ≡ None) one
+      (subst (λ (x : Leader T ID). append_rule (same_entry k) (server_in p.logs s0) (leader_in p.logs x) (k.rank t) n sent ≡ None)
+      other free) in
+      let done = append_seen k exact es id t c n sent (servers_in p) (leaders_in p) i j (server_in p.logs s) (server_in p.logs new)
+      (leader_in p.logs l) (server_place p id i at) (item_map (server_in p.logs) p.servers i s is)
+      (leader_place_in p t c (Some j) at_j) (item_map (leader_in p.logs) p.leaders j l is_l) keeps.seen now
+      same_id term vote (log now) (dur ∙ ap (λ m. min s.durable m) is_same)
+      (kept ∙ ap (λ m. map (at_most m) (kept_after s.kept.items s.term (length (log_at p.logs s.log)) (k.rank t))) is_same) in
+      (done.0, keeps_server (Appended id t c n sent ∷ es) p i new within (go earlier within within_j) done.1 es keeps)
+    where
+      go : (new.log ≤ s.log) ⊎ (new.log ≤ l.log) → i < length p.servers → j < length p.leaders
+          → new.log < length p.logs.logs
+      go (inl h) w v = let o : s.log < length p.logs.logs = keeps.have_logs.of_servers i s w is in omega (arith, h, o)
+      go (inr h) w v = let o : l.log < length p.logs.logs = keeps.have_logs.of_leaders j l v is_l in omega (arith, h, o)
+
+  -- a server is replaced by an equal one
+  pub same_server : (es : List (TraceEvent T ID D)) (p : Parts T ID D) (id : ID) (i : ℕ) (s new : Server ID)
+      → position (is_server id) p.servers ≡ Some i → s ≡ get_or p.servers i s → Keeps k es p
+      → new.id ≡ s.id → new.term ≡ s.term → new.voted ≡ s.voted → new.log ≡ s.log
+      → new.durable ≡ s.durable → new.kept.items ≡ s.kept.items → Keeps k es (with_server p i new)
+  same_server es p id i s new at is keeps same_id term vote log dur kept =
+      keeps_server es p i new within (rw log (log_of_server es p i s keeps within is))
+      (subst (λ (x : List (ServerState T ID D)). HasSeen k es x (leaders_in p)) (sym back) keeps.seen) es keeps
+    where
+      within : i < length p.servers
+      within = within_of (is_server id) p.servers i s at
+
+      equal : server_in p.logs new ≡ server_in p.logs s
+      equal = λ q. record {
+        id = same_id q;
+        term = term q;
+        voted = vote q;
+        log = log_at p.logs (log q);
+        durable = dur q;
+        kept = kept q;
+      }
+
+      back : set (servers_in p) i (server_in p.logs new) ≡ servers_in p
+      back =
+          ap (set (servers_in p) i) (equal ∙ item_map (server_in p.logs) p.servers i s is)
+          ∙ set-get_or (servers_in p) i (server_in p.logs s)
 
   -- a leader is replaced by an equal one
-  pub same_leader_again : (es : List (TraceEvent T ID D)) (t : T) (c : ID)
-      (servers : List (Server T ID D)) (leaders : List (Leader T ID D)) (j : ℕ) (l lnew : Leader T ID D)
-      → position (λ (x : Leader T ID D). same_leader k x.term x.id t c) leaders ≡ Some j
-      → l ≡ get_or leaders j l → HasSeen k es servers leaders → lnew.acked.items ≡ l.acked.items
-      → LeaderIs lnew l.term l.id l.start l.log.items l.voters.items l.elected l.committed
-      → HasSeen k es servers (set leaders j lnew)
-  same_leader_again es t c servers leaders j l lnew at_j is_l seen acked same = record {
-    allowed = seen.allowed;
-    see_servers = seen.see_servers;
-    see_leaders =
-        see_leader_set k exact es es leaders j lnew t c at_j place.1 seen.see_leaders
-        (λ u d apart. record {
-          campaigned = refl;
-          candidate_log = refl;
-          leader_log = refl;
-          voted = λ v. refl;
-          acked = λ v n. refl;
-          committed = λ log. refl;
-        })
-        (record {
-          campaigned = at_l.campaigned;
-          start = rw (same.start, same.log) at_l.start;
-          candidate_log = at_l.candidate_log ∙ sym (λ q. take (same.start q) (same.log q));
-          leader_log = at_l.leader_log ∙ sym same.log;
-          voted = λ v. at_l.voted v ∙ sym (ap (λ x. is_member k.same_id x v) same.voters);
-          distinct = rw same.voters at_l.distinct;
-          own_vote = rw same.voters at_l.own_vote;
-          elected = at_l.elected ∙ sym same.elected;
-          acked = λ v m. at_l.acked v m ∙ sym (ap (λ x. has_acked_to k.same_id x v m) acked);
-          committed = λ x. at_l.committed x ∙ sym (ap (λ y. config_committed (hold_no_config k) y x) same.committed);
-          within = rw (same.committed, same.log) at_l.within;
-        });
-    see_commits = λ r p. seen.see_commits r p ∙ sym (any_set_or (knows k.rank (same_entry k) r p) false leaders j lnew l
-        place.0 (same_knows r p));
-  }
+  pub same_leader_again : (es : List (TraceEvent T ID D)) (p : Parts T ID D) (t : T) (c : ID) (j : ℕ)
+      (l new : Leader T ID) → position (is_leader t c) p.leaders ≡ Some j → l ≡ get_or p.leaders j l
+      → Keeps k es p → new.acked.items ≡ l.acked.items
+      → LeaderIs (leader_in p.logs new) l.term l.id l.start (log_at p.logs l.log) l.voters.items l.elected l.committed
+      → new.log ≡ l.log → Keeps k es (with_leader p j new)
+  same_leader_again es p t c j l new at is keeps acked same log =
+      keeps_leader es p j new within (rw log (keeps.have_logs.of_leaders j l within is))
+      (subst (λ (x : List (LeaderState T ID D)). HasSeen k es (servers_in p) x) (sym back) keeps.seen) es keeps
     where
-      at_l : SeesLeader k es t c l
-      at_l = rw is_l (leader_seen k exact es leaders t c j l seen.see_leaders at_j)
+      within : j < length p.leaders
+      within = within_of (is_leader t c) p.leaders j l at
 
-      place : (j < length leaders) × (same_leader k lnew.term lnew.id t c ≡ true)
-      place = leader_place k exact leaders t c j l lnew at_j is_l same.term same.id
+      equal : leader_in p.logs new ≡ leader_in p.logs l
+      equal = λ q. record {
+        term = same.term q;
+        id = same.id q;
+        start = same.start q;
+        log = same.log q;
+        voters = same.voters q;
+        elected = same.elected q;
+        acked = acked q;
+        committed = same.committed q;
+      }
 
-      same_knows : (r : ℕ) (p : List (Entry T D)) → knows k.rank (same_entry k) r p lnew
-          ≡ knows k.rank (same_entry k) r p (get_or leaders j l)
-      same_knows r p =
-          (λ q. nat_le (k.rank (same.term q)) r && has_committed (same_entry k) (same.log q) (same.committed q) p)
-          ∙ ap (knows k.rank (same_entry k) r p) is_l
+      back : set (leaders_in p) j (leader_in p.logs new) ≡ leaders_in p
+      back =
+          ap (set (leaders_in p) j) (equal ∙ item_map (leader_in p.logs) p.leaders j l is)
+          ∙ set-get_or (leaders_in p) j (leader_in p.logs l)
 
-  pub restart_done : (es : List (TraceEvent T ID D)) (id : ID) (old servers : List (Server T ID D))
-      (leaders : List (Leader T ID D)) (i n : ℕ) (s0 s new : Server T ID D)
-      → HasPlace (λ (x : Server T ID D). k.same_id x.id id) id old servers i
-      → s0 ≡ get_or servers i s0 → s ≡ get_or servers i s
-      → HasSeen k es old leaders → restart_rule s0 n ≡ None
-      → new.id ≡ s.id → new.term ≡ s.term → new.voted ≡ s.voted → new.log.items ≡ take n s.log.items
-      → new.durable ≡ min s.durable n → new.kept.items ≡ map (at_most n) s.kept.items
-      → (broken_rule k (Restarted id n) es ≡ None)
-      × HasSeen k (Restarted id n ∷ es) (set servers i new) leaders
-  restart_done es id old servers leaders i n s0 s new place is0 is seen free =
-      let one : s0 ≡ s =
-      same_item servers i s0 s (place_within (λ (x : Server T ID D). k.same_id x.id id) servers i s place.0) is0 is in
-      restart_seen k exact es id servers leaders i n s new place.0 is
-      (see_place k exact es id old servers i leaders place seen)
-      (subst (λ (x : Server T ID D). restart_rule x n ≡ None) one free)
+  -- ---- nothing is kept of the leader
 
-  pub append_done : (es : List (TraceEvent T ID D)) (id : ID) (t : T) (c : ID) (n : ℕ)
-      (sent : List (Entry T D)) (old servers : List (Server T ID D)) (leaders : List (Leader T ID D))
-      (i j : ℕ) (s0 s new : Server T ID D) (l : Leader T ID D)
-      → HasPlace (λ (x : Server T ID D). k.same_id x.id id) id old servers i
-      → s0 ≡ get_or servers i s0 → s ≡ get_or servers i s
-      → position (λ (x : Leader T ID D). same_leader k x.term x.id t c) leaders ≡ Some j
-      → l ≡ get_or leaders j l
-      → HasSeen k es old leaders → append_rule (same_entry k) s0 l (k.rank t) n sent ≡ None
-      → new.id ≡ s.id → new.term ≡ max s.term (k.rank t) → new.voted ≡ s.voted → new.log.items ≡ take n s.log.items ++ sent
-      → new.durable ≡ min s.durable (n + common_len (same_entry k) (drop n s.log.items) sent)
-      → new.kept.items ≡ map (at_most (n + common_len (same_entry k) (drop n s.log.items) sent))
-      (kept_after s.kept.items s.term (length s.log.items) (k.rank t))
-      → (broken_rule k (Appended id t c n sent) es ≡ None)
-      × HasSeen k (Appended id t c n sent ∷ es) (set servers i new) leaders
-  append_done es id t c n sent old servers leaders i j s0 s new l place is0 is at_j is_l seen free =
-      let one : s0 ≡ s =
-      same_item servers i s0 s (place_within (λ (x : Server T ID D). k.same_id x.id id) servers i s place.0) is0 is in
-      append_seen k exact es id t c n sent servers leaders i j s new l place.0 is at_j is_l
-      (see_place k exact es id old servers i leaders place seen)
-      (subst (λ (x : Server T ID D). append_rule (same_entry k) x l (k.rank t) n sent ≡ None) one free)
+  pub unled : (es : List (TraceEvent T ID D)) (t : T) (c : ID) (p : Parts T ID D)
+      → position (is_leader t c) p.leaders ≡ None → Keeps k es p
+      → (is_elected k es t c ≡ false) × (has_campaigned k t c es ≡ false)
+  unled es t c p absent keeps =
+      let none = no_leader k exact es t c (servers_in p) (leaders_in p) (leader_place_in p t c None absent) keeps.seen in
+      (none.0, none.1)
+
+  pub append_unled : (es : List (TraceEvent T ID D)) (id : ID) (t : T) (c : ID) (n : ℕ)
+      (sent : List (Entry T D)) (p : Parts T ID D) → position (is_leader t c) p.leaders ≡ None
+      → Keeps k es p → (broken_rule k (Appended id t c n sent) es ≡ Some NotElected) × Keeps k es p
+  append_unled es id t c n sent p absent keeps = let none = unled es t c p absent keeps in (rw none.0 refl, keeps)
+
+  pub ack_unled : (es : List (TraceEvent T ID D)) (id : ID) (t : T) (c : ID) (n : ℕ) (p : Parts T ID D)
+      → position (is_leader t c) p.leaders ≡ None
+      → Keeps k es p → (broken_rule k (Acked id t c n) es ≡ Some NotElected) × Keeps k es p
+  ack_unled es id t c n p absent keeps = let none = unled es t c p absent keeps in (rw none.0 refl, keeps)
+
+  pub grant_unled : (es : List (TraceEvent T ID D)) (id : ID) (t : T) (c : ID) (p : Parts T ID D)
+      → position (is_leader t c) p.leaders ≡ None
+      → Keeps k es p → (broken_rule k (Granted id t c) es ≡ Some NoCampaign) × Keeps k es p
+  grant_unled es id t c p absent keeps = let none = unled es t c p absent keeps in (rw none.1 refl, keeps)
+
+  pub write_unled : (es : List (TraceEvent T ID D)) (t : T) (c : ID) (e : Entry T D) (p : Parts T ID D)
+      → position (is_leader t c) p.leaders ≡ None
+      → Keeps k es p → (broken_rule k (Wrote c t e) es ≡ Some NotElected) × Keeps k es p
+  write_unled es t c e p absent keeps = let none = unled es t c p absent keeps in (rw none.0 refl, keeps)
+
+  pub commit_unled : (es : List (TraceEvent T ID D)) (t : T) (c : ID) (n m : ℕ) (p : Parts T ID D)
+      → position (is_leader t c) p.leaders ≡ None
+      → Keeps k es p → (broken_rule k (Committed c t n m) es ≡ Some NotElected) × Keeps k es p
+  commit_unled es t c n m p absent keeps = let none = unled es t c p absent keeps in (rw none.0 refl, keeps)
+
+  pub apply_unled : (es : List (TraceEvent T ID D)) (id : ID) (t : T) (c : ID) (n : ℕ) (p : Parts T ID D)
+      → position (is_leader t c) p.leaders ≡ None
+      → Keeps k es p → (broken_rule k (Applied id t c n) es ≡ Some NotElected) × Keeps k es p
+  apply_unled es id t c n p absent keeps = let none = unled es t c p absent keeps in (rw none.0 refl, keeps)
+
+  -- ---- acknowledgements
+
+  pub ack_refused : (es : List (TraceEvent T ID D)) (id : ID) (t : T) (c : ID) (n : ℕ)
+      (p : Parts T ID D) (i j : ℕ) (s : Server ID) (l : Leader T ID) (r : Rule)
+      → position (is_server id) p.servers ≡ Some i → s ≡ get_or p.servers i s
+      → position (is_leader t c) p.leaders ≡ Some j → l ≡ get_or p.leaders j l → Keeps k es p
+      → ack_rule (same_entry k) (server_in p.logs s) (leader_in p.logs l) (k.rank t) n ≡ Some r
+      → (broken_rule k (Acked id t c n) es ≡ Some r) × Keeps k es p
+  ack_refused es id t c n p i j s l r at is at_j is_l keeps broken = (
+    ack_right k exact es id t c n (server_in p.logs s) (leader_in p.logs l)
+        (sees_server_at es p id i s at is keeps) (sees_leader_at es p t c j l at_j is_l keeps) ∙ broken,
+    keeps,
+  )
+
+  -- a server and a leader are replaced
+  keeps_both : (es : List (TraceEvent T ID D)) (p : Parts T ID D) (i j : ℕ) (new : Server ID) (lnew : Leader T ID)
+      → i < length p.servers → j < length p.leaders → new.log < length p.logs.logs → lnew.log < length p.logs.logs
+      → HasSeen k es (set (servers_in p) i (server_in p.logs new)) (set (leaders_in p) j (leader_in p.logs lnew))
+      → (old : List (TraceEvent T ID D)) → Keeps k old p → Keeps k es (with_leader (with_server p i new) j lnew)
+  keeps_both es p i j new lnew at at_j within within_j seen old keeps = record {
+    are_logs = keeps.are_logs;
+    have_logs = have_leader (with_server p i new) j lnew (have_server p i new keeps.have_logs at within) at_j within_j;
+    seen = subst (λ (x : List (LeaderState T ID D)). HasSeen k es (servers_in (with_server p i new)) x)
+        (sym (map-set (leader_in p.logs) p.leaders j lnew))
+        (subst (λ (x : List (ServerState T ID D)). HasSeen k es x (set (leaders_in p) j (leader_in p.logs lnew)))
+        (sym (map-set (server_in p.logs) p.servers i new)) seen);
+  }
 
   pub ack_done : (es : List (TraceEvent T ID D)) (id : ID) (t : T) (c : ID) (n : ℕ)
-      (old servers : List (Server T ID D)) (leaders : List (Leader T ID D)) (i j : ℕ)
-      (s0 s new : Server T ID D) (l0 l lnew : Leader T ID D)
-      → HasPlace (λ (x : Server T ID D). k.same_id x.id id) id old servers i
-      → s0 ≡ get_or servers i s0 → s ≡ get_or servers i s
-      → position (λ (x : Leader T ID D). same_leader k x.term x.id t c) leaders ≡ Some j
-      → l0 ≡ get_or leaders j l0 → l ≡ get_or leaders j l
-      → HasSeen k es old leaders → ack_rule (same_entry k) s0 l0 (k.rank t) n ≡ None
-      → new.id ≡ s.id → new.term ≡ s.term → new.voted ≡ s.voted → new.log.items ≡ s.log.items
+      (p : Parts T ID D) (i j : ℕ) (s0 s new : Server ID) (l0 l lnew : Leader T ID)
+      → position (is_server id) p.servers ≡ Some i
+      → s0 ≡ get_or p.servers i s0 → s ≡ get_or p.servers i s
+      → position (is_leader t c) p.leaders ≡ Some j
+      → l0 ≡ get_or p.leaders j l0 → l ≡ get_or p.leaders j l → Keeps k es p
+      → ack_rule (same_entry k) (server_in p.logs s0) (leader_in p.logs l0) (k.rank t) n ≡ None
+      → new.id ≡ s.id → new.term ≡ s.term → new.voted ≡ s.voted → new.log ≡ s.log
       → new.durable ≡ max n s.durable → new.kept.items ≡ s.kept.items
       → ((v : ID) (m : ℕ) → has_acked_to k.same_id lnew.acked.items v m
       ≡ (has_acked_to k.same_id l.acked.items v m || (k.same_id id v && nat_le m n)))
-      → LeaderIs lnew l.term l.id l.start l.log.items l.voters.items l.elected l.committed
+      → LeaderIs (leader_in p.logs lnew) l.term l.id l.start (log_at p.logs l.log) l.voters.items l.elected l.committed
+      → lnew.log ≡ l.log
       → (broken_rule k (Acked id t c n) es ≡ None)
-      × HasSeen k (Acked id t c n ∷ es) (set servers i new) (set leaders j lnew)
-  ack_done es id t c n old servers leaders i j s0 s new l0 l lnew place is0 is at_j is_l0 is_l seen free =
-      let one : s0 ≡ s =
-      same_item servers i s0 s (place_within (λ (x : Server T ID D). k.same_id x.id id) servers i s place.0) is0 is in
-      let other : l0 ≡ l =
-      same_item leaders j l0 l (place_within (λ (x : Leader T ID D). same_leader k x.term x.id t c) leaders j l at_j) is_l0 is_l in
-      ack_seen k exact es id t c n servers leaders i j s new l lnew place.0 is at_j is_l
-      (see_place k exact es id old servers i leaders place seen)
-      (subst (λ (x : Server T ID D). ack_rule (same_entry k) x l (k.rank t) n ≡ None) one
-      (subst (λ (x : Leader T ID D). ack_rule (same_entry k) s0 x (k.rank t) n ≡ None) other free))
+      × Keeps k (Acked id t c n ∷ es) (with_leader (with_server p i new) j lnew)
+  ack_done es id t c n p i j s0 s new l0 l lnew at is0 is at_j is_l0 is_l keeps free same_id term vote log dur kept acked same same_log =
+      let within : i < length p.servers = within_of (is_server id) p.servers i s at in
+      let within_j : j < length p.leaders = within_of (is_leader t c) p.leaders j l at_j in
+      let one : s0 ≡ s = same_item p.servers i s0 s within is0 is in
+      let other : l0 ≡ l = same_item p.leaders j l0 l within_j is_l0 is_l in
+      let now : ack_rule (same_entry k) (server_in p.logs s) (leader_in p.logs l) (k.rank t) n ≡ None =
+      subst (λ (x : Server ID). ack_rule (same_entry k) (server_in p.logs x) (leader_in p.logs l) (k.rank t) n ≡ None) one
+      (subst (λ (x : Leader T ID). ack_rule (same_entry k) (server_in p.logs s0) (leader_in p.logs x) (k.rank t) n ≡ None)
+      other free) in
+      let done = ack_seen k exact es id t c n (servers_in p) (leaders_in p) i j (server_in p.logs s) (server_in p.logs new)
+      (leader_in p.logs l) (leader_in p.logs lnew)
+      (server_place p id i at) (item_map (server_in p.logs) p.servers i s is)
+      (leader_place_in p t c (Some j) at_j) (item_map (leader_in p.logs) p.leaders j l is_l) keeps.seen now
+      same_id term vote (ap (log_at p.logs) log) dur kept acked same in (
+        done.0,
+        keeps_both (Acked id t c n ∷ es) p i j new lnew within within_j
+            (rw log (keeps.have_logs.of_servers i s within is)) (rw same_log (keeps.have_logs.of_leaders j l within_j is_l))
+            done.1 es keeps,
+      )
+
+  -- ---- votes
+
+  pub grant_refused : (es : List (TraceEvent T ID D)) (id : ID) (t : T) (c : ID)
+      (p : Parts T ID D) (i j : ℕ) (s : Server ID) (l : Leader T ID) (r : Rule)
+      → position (is_server id) p.servers ≡ Some i → s ≡ get_or p.servers i s
+      → position (is_leader t c) p.leaders ≡ Some j → l ≡ get_or p.leaders j l → Keeps k es p
+      → grant_rule k.rank k.same_id (server_in p.logs s) (leader_in p.logs l) id (k.rank t) c ≡ Some r
+      → (broken_rule k (Granted id t c) es ≡ Some r) × Keeps k es p
+  grant_refused es id t c p i j s l r at is at_j is_l keeps broken = (
+    grant_right k exact es id t c (server_in p.logs s) (leader_in p.logs l)
+        (sees_server_at es p id i s at is keeps) (sees_leader_at es p t c j l at_j is_l keeps) ∙ broken,
+    keeps,
+  )
+
+  grant_free : (p : Parts T ID D) (id : ID) (t : T) (c : ID) (i j : ℕ) (s0 s : Server ID) (l0 l : Leader T ID)
+      → i < length p.servers → j < length p.leaders
+      → s0 ≡ get_or p.servers i s0 → s ≡ get_or p.servers i s
+      → l0 ≡ get_or p.leaders j l0 → l ≡ get_or p.leaders j l
+      → grant_rule k.rank k.same_id (server_in p.logs s0) (leader_in p.logs l0) id (k.rank t) c ≡ None
+      → grant_rule k.rank k.same_id (server_in p.logs s) (leader_in p.logs l) id (k.rank t) c ≡ None
+  grant_free p id t c i j s0 s l0 l within within_j is0 is is_l0 is_l free =
+      subst (λ (x : Server ID). grant_rule k.rank k.same_id (server_in p.logs x) (leader_in p.logs l) id (k.rank t) c ≡ None)
+      (same_item p.servers i s0 s within is0 is)
+      (subst (λ (x : Leader T ID). grant_rule k.rank k.same_id (server_in p.logs s0) (leader_in p.logs x) id (k.rank t) c ≡ None)
+      (same_item p.leaders j l0 l within_j is_l0 is_l) free)
 
   pub grant_done : (es : List (TraceEvent T ID D)) (id : ID) (t : T) (c : ID)
-      (old servers : List (Server T ID D)) (leaders : List (Leader T ID D)) (i j : ℕ)
-      (s0 s new : Server T ID D) (l0 l lnew : Leader T ID D)
-      → HasPlace (λ (x : Server T ID D). k.same_id x.id id) id old servers i
-      → s0 ≡ get_or servers i s0 → s ≡ get_or servers i s
-      → position (λ (x : Leader T ID D). same_leader k x.term x.id t c) leaders ≡ Some j
-      → l0 ≡ get_or leaders j l0 → l ≡ get_or leaders j l
-      → HasSeen k es old leaders → grant_rule k.rank k.same_id s0 l0 id (k.rank t) c ≡ None
-      → s.term < k.rank t → new.id ≡ s.id → new.term ≡ max s.term (k.rank t) → new.voted ≡ k.rank t → new.log.items ≡ s.log.items
-      → new.durable ≡ s.durable
-      → new.kept.items ≡ kept_after s.kept.items s.term (length s.log.items) (k.rank t)
+      (p : Parts T ID D) (i j : ℕ) (s0 s new : Server ID) (l0 l lnew : Leader T ID) (config : Option D)
+      → position (is_server id) p.servers ≡ Some i
+      → s0 ≡ get_or p.servers i s0 → s ≡ get_or p.servers i s
+      → position (is_leader t c) p.leaders ≡ Some j
+      → l0 ≡ get_or p.leaders j l0 → l ≡ get_or p.leaders j l → Keeps k es p
+      → grant_rule k.rank k.same_id (server_in p.logs s0) (leader_in p.logs l0) id (k.rank t) c ≡ None
+      → s.term < k.rank t → new.id ≡ s.id → new.term ≡ max s.term (k.rank t) → new.voted ≡ k.rank t
+      → new.log ≡ s.log → new.durable ≡ s.durable
+      → new.kept.items ≡ kept_after s.kept.items s.term (length (log_at p.logs s.log)) (k.rank t)
       → ((v : ID) → is_member k.same_id lnew.voters.items v
       ≡ (is_member k.same_id l.voters.items v || k.same_id v id))
       → (IsDistinct k.same_id l.voters.items → IsDistinct k.same_id lnew.voters.items)
       → (IsDistinct k.same_id l.voters.items
-      → lnew.elected ≡ k.quorum_of (effective_config k.config_of k.initial (take l.start l.log.items))
-      (is_member k.same_id lnew.voters.items))
+      → lnew.elected ≡ k.quorum_of config (is_member k.same_id lnew.voters.items))
+      → config ≡ effective_config k.config_of k.initial (take l.start (log_at p.logs l.log))
       → lnew.acked.items ≡ l.acked.items
-      → LeaderIs lnew l.term l.id l.start l.log.items lnew.voters.items lnew.elected l.committed
+      → LeaderIs (leader_in p.logs lnew) l.term l.id l.start (log_at p.logs l.log) lnew.voters.items lnew.elected l.committed
+      → lnew.log ≡ l.log
       → (broken_rule k (Granted id t c) es ≡ None)
-      × HasSeen k (Granted id t c ∷ es) (set servers i new) (set leaders j lnew)
-  grant_done es id t c old servers leaders i j s0 s new l0 l lnew place is0 is at_j is_l0 is_l seen free above same_id term vote
-      log dur kept voted
-      distinct elected =
-      let one : s0 ≡ s =
-      same_item servers i s0 s (place_within (λ (x : Server T ID D). k.same_id x.id id) servers i s place.0) is0 is in
-      let other : l0 ≡ l =
-      same_item leaders j l0 l (place_within (λ (x : Leader T ID D). same_leader k x.term x.id t c) leaders j l at_j) is_l0 is_l in
-      let at_l : SeesLeader k es t c l = rw is_l (leader_seen k exact es leaders t c j l seen.see_leaders at_j) in
-      grant_seen k exact es id t c servers leaders i j s new l lnew place.0 is at_j is_l
-      (see_place k exact es id old servers i leaders place seen)
-      (subst (λ (x : Server T ID D). grant_rule k.rank k.same_id x l id (k.rank t) c ≡ None) one
-      (subst (λ (x : Leader T ID D). grant_rule k.rank k.same_id s0 x id (k.rank t) c ≡ None) other free))
-      above same_id term vote log dur kept voted (distinct at_l.distinct) (elected at_l.distinct)
+      × Keeps k (Granted id t c ∷ es) (with_leader (with_server p i new) j lnew)
+  grant_done es id t c p i j s0 s new l0 l lnew config at is0 is at_j is_l0 is_l keeps free above same_id term vote log dur
+      kept voted distinct elected is_config acked same same_log =
+      let within : i < length p.servers = within_of (is_server id) p.servers i s at in
+      let within_j : j < length p.leaders = within_of (is_leader t c) p.leaders j l at_j in
+      let at_l : SeesLeader k es t c (leader_in p.logs l) = sees_leader_at es p t c j l at_j is_l keeps in
+      let done = grant_seen k exact es id t c (servers_in p) (leaders_in p) i j (server_in p.logs s) (server_in p.logs new)
+      (leader_in p.logs l) (leader_in p.logs lnew)
+      (server_place p id i at) (item_map (server_in p.logs) p.servers i s is)
+      (leader_place_in p t c (Some j) at_j) (item_map (leader_in p.logs) p.leaders j l is_l) keeps.seen
+      (grant_free p id t c i j s0 s l0 l within within_j is0 is is_l0 is_l free)
+      above same_id term vote (ap (log_at p.logs) log) dur kept voted (distinct at_l.distinct)
+      (elected at_l.distinct ∙ ap (λ x. k.quorum_of x (is_member k.same_id lnew.voters.items)) is_config) acked same in (
+        done.0,
+        keeps_both (Granted id t c ∷ es) p i j new lnew within within_j
+            (rw log (keeps.have_logs.of_servers i s within is)) (rw same_log (keeps.have_logs.of_leaders j l within_j is_l))
+            done.1 es keeps,
+      )
 
   pub late_vote_done : (es : List (TraceEvent T ID D)) (id : ID) (t : T) (c : ID)
-      (old servers : List (Server T ID D)) (leaders : List (Leader T ID D)) (i j : ℕ)
-      (s0 s new : Server T ID D) (l : Leader T ID D)
-      → HasPlace (λ (x : Server T ID D). k.same_id x.id id) id old servers i
-      → s0 ≡ get_or servers i s0 → s ≡ get_or servers i s
-      → position (λ (x : Leader T ID D). same_leader k x.term x.id t c) leaders ≡ Some j
-      → l ≡ get_or leaders j l
-      → HasSeen k es old leaders → grant_rule k.rank k.same_id s0 l id (k.rank t) c ≡ None
+      (p : Parts T ID D) (i j : ℕ) (s0 s new : Server ID) (l : Leader T ID)
+      → position (is_server id) p.servers ≡ Some i
+      → s0 ≡ get_or p.servers i s0 → s ≡ get_or p.servers i s
+      → position (is_leader t c) p.leaders ≡ Some j → l ≡ get_or p.leaders j l → Keeps k es p
+      → grant_rule k.rank k.same_id (server_in p.logs s0) (leader_in p.logs l) id (k.rank t) c ≡ None
       → k.rank t ≤ s.term → new.id ≡ s.id → new.term ≡ s.term → new.voted ≡ k.rank t
-      → new.log.items ≡ s.log.items → new.durable ≡ s.durable → new.kept.items ≡ s.kept.items
+      → new.log ≡ s.log → new.durable ≡ s.durable → new.kept.items ≡ s.kept.items
       → (broken_rule k (Granted id t c) es ≡ None)
-      × HasSeen k (Granted id t c ∷ es) (set servers i new) leaders
-  late_vote_done es id t c old servers leaders i j s0 s new l place is0 is at_j is_l seen free reached =
-      let one : s0 ≡ s =
-      same_item servers i s0 s (place_within (λ (x : Server T ID D). k.same_id x.id id) servers i s place.0) is0 is in
-      late_vote_seen k exact es id t c servers leaders i j s new l place.0 is at_j is_l
-      (see_place k exact es id old servers i leaders place seen)
-      (subst (λ (x : Server T ID D). grant_rule k.rank k.same_id x l id (k.rank t) c ≡ None) one free)
-      reached
-
-  pub campaign_done : (es : List (TraceEvent T ID D)) (t : T) (c : ID)
-      (old servers : List (Server T ID D)) (leaders : List (Leader T ID D)) (i : ℕ)
-      (s0 s new : Server T ID D) (lnew : Leader T ID D)
-      → HasPlace (λ (x : Server T ID D). k.same_id x.id c) c old servers i
-      → s0 ≡ get_or servers i s0 → s ≡ get_or servers i s
-      → position (λ (x : Leader T ID D). same_leader k x.term x.id t c) leaders ≡ None
-      → HasSeen k es old leaders → s0.term < k.rank t
-      → new.id ≡ s.id → new.term ≡ max s.term (k.rank t) → new.voted ≡ k.rank t → new.log.items ≡ s.log.items
-      → new.durable ≡ s.durable
-      → new.kept.items ≡ kept_after s.kept.items s.term (length s.log.items) (k.rank t)
-      → lnew.elected ≡ k.quorum_of (effective_config k.config_of k.initial s.log.items)
-      (is_member k.same_id (c ∷ []))
-      → lnew.acked.items ≡ []
-      → LeaderIs lnew t c (length s.log.items) s.log.items (c ∷ []) lnew.elected None
-      → (broken_rule k (Campaigned c t) es ≡ None)
-      × HasSeen k (Campaigned c t ∷ es) (set servers i new) (lnew ∷ leaders)
-  campaign_done es t c old servers leaders i s0 s new lnew place is0 is absent seen above =
-      let one : s0 ≡ s =
-      same_item servers i s0 s (place_within (λ (x : Server T ID D). k.same_id x.id c) servers i s place.0) is0 is in
-      campaign_seen k exact es t c servers leaders i s new lnew place.0 is absent
-      (see_place k exact es c old servers i leaders place seen)
-      (subst (λ (x : Server T ID D). x.term < k.rank t) one above)
-
-  -- ---- nothing is kept of the leader
-
-  pub append_unled : (es : List (TraceEvent T ID D)) (id : ID) (t : T) (c : ID) (n : ℕ)
-      (sent : List (Entry T D)) (servers : List (Server T ID D)) (leaders : List (Leader T ID D))
-      → position (λ (x : Leader T ID D). same_leader k x.term x.id t c) leaders ≡ None
-      → HasSeen k es servers leaders
-      → (broken_rule k (Appended id t c n sent) es ≡ Some NotElected) × HasSeen k es servers leaders
-  append_unled es id t c n sent servers leaders absent seen =
-      let none = no_leader k exact es t c servers leaders absent seen in (rw none.0 refl, seen)
-
-  pub ack_unled : (es : List (TraceEvent T ID D)) (id : ID) (t : T) (c : ID) (n : ℕ)
-      (servers : List (Server T ID D)) (leaders : List (Leader T ID D))
-      → position (λ (x : Leader T ID D). same_leader k x.term x.id t c) leaders ≡ None
-      → HasSeen k es servers leaders
-      → (broken_rule k (Acked id t c n) es ≡ Some NotElected) × HasSeen k es servers leaders
-  ack_unled es id t c n servers leaders absent seen =
-      let none = no_leader k exact es t c servers leaders absent seen in (rw none.0 refl, seen)
-
-  pub grant_unled : (es : List (TraceEvent T ID D)) (id : ID) (t : T) (c : ID)
-      (servers : List (Server T ID D)) (leaders : List (Leader T ID D))
-      → position (λ (x : Leader T ID D). same_leader k x.term x.id t c) leaders ≡ None
-      → HasSeen k es servers leaders
-      → (broken_rule k (Granted id t c) es ≡ Some NoCampaign) × HasSeen k es servers leaders
-  grant_unled es id t c servers leaders absent seen =
-      let none = no_leader k exact es t c servers leaders absent seen in (rw none.1 refl, seen)
-
-  pub write_unled : (es : List (TraceEvent T ID D)) (t : T) (c : ID) (e : Entry T D)
-      (servers : List (Server T ID D)) (leaders : List (Leader T ID D))
-      → position (λ (x : Leader T ID D). same_leader k x.term x.id t c) leaders ≡ None
-      → HasSeen k es servers leaders
-      → (broken_rule k (Wrote c t e) es ≡ Some NotElected) × HasSeen k es servers leaders
-  write_unled es t c e servers leaders absent seen =
-      let none = no_leader k exact es t c servers leaders absent seen in (rw none.0 refl, seen)
-
-  pub commit_unled : (es : List (TraceEvent T ID D)) (t : T) (c : ID) (n m : ℕ)
-      (servers : List (Server T ID D)) (leaders : List (Leader T ID D))
-      → position (λ (x : Leader T ID D). same_leader k x.term x.id t c) leaders ≡ None
-      → HasSeen k es servers leaders
-      → (broken_rule k (Committed c t n m) es ≡ Some NotElected) × HasSeen k es servers leaders
-  commit_unled es t c n m servers leaders absent seen =
-      let none = no_leader k exact es t c servers leaders absent seen in (rw none.0 refl, seen)
-
-  pub apply_unled : (es : List (TraceEvent T ID D)) (id : ID) (t : T) (c : ID) (n : ℕ)
-      (servers : List (Server T ID D)) (leaders : List (Leader T ID D))
-      → position (λ (x : Leader T ID D). same_leader k x.term x.id t c) leaders ≡ None
-      → HasSeen k es servers leaders
-      → (broken_rule k (Applied id t c n) es ≡ Some NotElected) × HasSeen k es servers leaders
-  apply_unled es id t c n servers leaders absent seen =
-      let none = no_leader k exact es t c servers leaders absent seen in (rw none.0 refl, seen)
-
-  pub write_refused : (es : List (TraceEvent T ID D)) (t : T) (c : ID) (e : Entry T D)
-      (servers : List (Server T ID D)) (leaders : List (Leader T ID D)) (j : ℕ) (l : Leader T ID D)
-      (r : Rule) (holds : D → Bool) → ((d : D) → k.config_of d ≡ config_in holds d)
-      → k.initial ≡ None
-      → position (λ (x : Leader T ID D). same_leader k x.term x.id t c) leaders ≡ Some j
-      → l ≡ get_or leaders j l → HasSeen k es servers leaders
-      → write_rule k.same_term holds k.intersect l t e ≡ Some r
-      → (broken_rule k (Wrote c t e) es ≡ Some r) × HasSeen k es servers leaders
-  write_refused es t c e servers leaders j l r holds is initial at_j is_l seen broken =
-      let at_l : SeesLeader k es t c l = rw is_l (leader_seen k exact es leaders t c j l seen.see_leaders at_j) in
-      (write_right k exact es t c e l holds is initial at_l ∙ broken, seen)
-
-  pub write_done : (es : List (TraceEvent T ID D)) (t : T) (c : ID) (e : Entry T D)
-      (servers : List (Server T ID D)) (leaders : List (Leader T ID D)) (j : ℕ)
-      (l0 l lnew : Leader T ID D) (holds : D → Bool)
-      → ((d : D) → k.config_of d ≡ config_in holds d) → k.initial ≡ None
-      → position (λ (x : Leader T ID D). same_leader k x.term x.id t c) leaders ≡ Some j
-      → l0 ≡ get_or leaders j l0 → l ≡ get_or leaders j l → HasSeen k es servers leaders
-      → write_rule k.same_term holds k.intersect l0 t e ≡ None
-      → lnew.acked.items ≡ l.acked.items
-      → LeaderIs lnew l.term l.id l.start (l.log.items ++ e ∷ []) l.voters.items l.elected l.committed
-      → (broken_rule k (Wrote c t e) es ≡ None)
-      × HasSeen k (Wrote c t e ∷ es) servers (set leaders j lnew)
-  write_done es t c e servers leaders j l0 l lnew holds is initial at_j is_l0 is_l seen free =
-      let at_l : SeesLeader k es t c l0 = rw is_l0 (leader_seen k exact es leaders t c j l0 seen.see_leaders at_j) in
-      write_seen k exact es t c e servers leaders j l lnew at_j is_l seen
-      (write_right k exact es t c e l0 holds is initial at_l ∙ free)
-
-  pub commit_refused : (es : List (TraceEvent T ID D)) (t : T) (c : ID) (n m : ℕ)
-      (servers : List (Server T ID D)) (leaders : List (Leader T ID D)) (j : ℕ) (l : Leader T ID D)
-      (r : Rule) → position (λ (x : Leader T ID D). same_leader k x.term x.id t c) leaders ≡ Some j
-      → l ≡ get_or leaders j l → HasSeen k es servers leaders → commit_rule l n m ≡ Some r
-      → (broken_rule k (Committed c t n m) es ≡ Some r) × HasSeen k es servers leaders
-  commit_refused es t c n m servers leaders j l r at_j is_l seen broken =
-      let at_l : SeesLeader k es t c l = rw is_l (leader_seen k exact es leaders t c j l seen.see_leaders at_j) in
-      let quorum : Bool =
-      is_quorum_of_log k (take m l.log.items) (λ v. has_acked_to k.same_id l.acked.items v n) in (
-        commit_right k exact es t c n m l quorum at_l refl
-            ∙ commit_first k exact l n m r (unless quorum NoQuorum None) broken,
-        seen,
+      × Keeps k (Granted id t c ∷ es) (with_server p i new)
+  late_vote_done es id t c p i j s0 s new l at is0 is at_j is_l keeps free reached same_id term vote log dur kept =
+      let within : i < length p.servers = within_of (is_server id) p.servers i s at in
+      let within_j : j < length p.leaders = within_of (is_leader t c) p.leaders j l at_j in
+      let done = late_vote_seen k exact es id t c (servers_in p) (leaders_in p) i j (server_in p.logs s) (server_in p.logs new)
+      (leader_in p.logs l) (server_place p id i at) (item_map (server_in p.logs) p.servers i s is)
+      (leader_place_in p t c (Some j) at_j) (item_map (leader_in p.logs) p.leaders j l is_l) keeps.seen
+      (grant_free p id t c i j s0 s l l within within_j is0 is is_l is_l free)
+      reached same_id term vote (ap (log_at p.logs) log) dur kept in (
+        done.0,
+        keeps_server (Granted id t c ∷ es) p i new within (rw log (keeps.have_logs.of_servers i s within is)) done.1 es keeps,
       )
 
-  commit_short : (l : Leader T ID D) (n m : ℕ) → commit_rule l n m ≡ None → n ≤ length l.log.items
-  commit_short l n m e =
-      go l.elected (nat_lt l.start n) (nat_le n m) (nat_le m (length l.log.items)) refl refl e
-    where
-      go : (a b x y : Bool) → nat_le n m ≡ x → nat_le m (length l.log.items) ≡ y
-          → unless a NotElected (unless b EarlierTerm (unless x CountedEarly (unless y NotWritten None))) ≡ None
-          → n ≤ length l.log.items
-      go true true true true p q h =
-          let u : n ≤ m = leb-true n m p in
-          let v : m ≤ length l.log.items = leb-true m (length l.log.items) q in
-          omega arith
-      go true true true false p q h = absurd (cc)
-      go true true false y p q h = absurd (cc)
-      go true false x y p q h = absurd (cc)
-      go false b x y p q h = absurd (cc)
+  -- ---- campaigns
 
-  -- the quorum of a commit is tested
-  commit_tested : (es : List (TraceEvent T ID D)) (t : T) (c : ID) (n m : ℕ)
-      (leaders : List (Leader T ID D)) (servers : List (Server T ID D)) (j : ℕ)
-      (l l1 l2 : Leader T ID D) (ids : List ID) (quorum : Bool)
-      → position (λ (x : Leader T ID D). same_leader k x.term x.id t c) leaders ≡ Some j
-      → l ≡ get_or leaders j l → l1 ≡ get_or leaders j l1 → l2 ≡ get_or leaders j l2
-      → HasSeen k es servers leaders → commit_rule l n m ≡ None
-      → ((v : ID) → is_member k.same_id ids v ≡ has_acked_to k.same_id l1.acked.items v n)
-      → quorum ≡ k.quorum_of (effective_config k.config_of k.initial (take m l2.log.items))
-      (is_member k.same_id ids)
-      → broken_rule k (Committed c t n m) es ≡ unless quorum NoQuorum None
-  commit_tested es t c n m leaders servers j l l1 l2 ids quorum at_j is is1 is2 seen free members counted =
-      let within : j < length leaders =
-      place_within (λ (x : Leader T ID D). same_leader k x.term x.id t c) leaders j l at_j in
-      let q1 : l1 ≡ l = same_item leaders j l1 l within is1 is in
-      let q2 : l2 ≡ l = same_item leaders j l2 l within is2 is in
-      let at_l : SeesLeader k es t c l = rw is (leader_seen k exact es leaders t c j l seen.see_leaders at_j) in
-      let by_ids : (v : ID) → has_acked_to k.same_id l.acked.items v n ≡ is_member k.same_id ids v =
-      λ v. sym (members v ∙ ap (λ (x : Leader T ID D). has_acked_to k.same_id x.acked.items v n) q1) in
-      let tested : is_quorum_of_log k (take m l.log.items) (λ v. has_acked_to k.same_id l.acked.items v n) ≡ quorum =
-      (λ q. is_quorum_of_log k (take m l.log.items) (λ v. by_ids v q))
-      ∙ sym (counted ∙ ap (λ (x : Leader T ID D). k.quorum_of (effective_config k.config_of k.initial (take m x.log.items))
-      (is_member k.same_id ids)) q2) in
-      commit_right k exact es t c n m l quorum at_l tested
-      ∙ commit_then k exact l n m (unless quorum NoQuorum None) free
-
-  pub commit_uncounted : (es : List (TraceEvent T ID D)) (t : T) (c : ID) (n m : ℕ)
-      (leaders : List (Leader T ID D)) (servers : List (Server T ID D)) (j : ℕ)
-      (l l1 l2 : Leader T ID D) (ids : List ID) (quorum : Bool)
-      → position (λ (x : Leader T ID D). same_leader k x.term x.id t c) leaders ≡ Some j
-      → l ≡ get_or leaders j l → l1 ≡ get_or leaders j l1 → l2 ≡ get_or leaders j l2
-      → HasSeen k es servers leaders → commit_rule l n m ≡ None
-      → ((v : ID) → is_member k.same_id ids v ≡ has_acked_to k.same_id l1.acked.items v n)
-      → quorum ≡ k.quorum_of (effective_config k.config_of k.initial (take m l2.log.items))
-      (is_member k.same_id ids)
-      → quorum ≡ false
-      → (broken_rule k (Committed c t n m) es ≡ Some NoQuorum) × HasSeen k es servers leaders
-  commit_uncounted es t c n m leaders servers j l l1 l2 ids quorum at_j is is1 is2 seen free members counted few = (
-    commit_tested es t c n m leaders servers j l l1 l2 ids quorum at_j is is1 is2 seen free members counted
-        ∙ ap (λ b. unless b NoQuorum None) few,
-    seen,
+  pub campaign_twice : (es : List (TraceEvent T ID D)) (t : T) (c : ID) (p : Parts T ID D) (j : ℕ)
+      → position (is_leader t c) p.leaders ≡ Some j → Keeps k es p
+      → (broken_rule k (Campaigned c t) es ≡ Some CampaignedTwice) × Keeps k es p
+  campaign_twice es t c p j at keeps = (
+    (campaign_again k exact es t c (servers_in p) (leaders_in p) j (leader_place_in p t c (Some j) at) keeps.seen).0,
+    keeps,
   )
 
-  pub commit_done : (es : List (TraceEvent T ID D)) (t : T) (c : ID) (n m : ℕ)
-      (leaders : List (Leader T ID D)) (servers : List (Server T ID D)) (j : ℕ)
-      (l l1 l2 l3 lnew : Leader T ID D) (ids : List ID) (quorum : Bool)
-      → position (λ (x : Leader T ID D). same_leader k x.term x.id t c) leaders ≡ Some j
-      → l ≡ get_or leaders j l → l1 ≡ get_or leaders j l1 → l2 ≡ get_or leaders j l2
-      → l3 ≡ get_or leaders j l3
-      → HasSeen k es servers leaders → commit_rule l n m ≡ None
-      → ((v : ID) → is_member k.same_id ids v ≡ has_acked_to k.same_id l1.acked.items v n)
-      → quorum ≡ k.quorum_of (effective_config k.config_of k.initial (take m l2.log.items))
-      (is_member k.same_id ids)
-      → quorum ≡ true → lnew.acked.items ≡ l3.acked.items
-      → LeaderIs lnew l3.term l3.id l3.start l3.log.items l3.voters.items l3.elected
-      (Some (max (unwrap_or l3.committed 0) n))
-      → (broken_rule k (Committed c t n m) es ≡ None)
-      × HasSeen k (Committed c t n m ∷ es) servers (set leaders j lnew)
-  commit_done es t c n m leaders servers j l l1 l2 l3 lnew ids quorum at_j is is1 is2 is3 seen free members counted enough acked same =
-      let tested : broken_rule k (Committed c t n m) es ≡ unless quorum NoQuorum None =
-      commit_tested es t c n m leaders servers j l l1 l2 ids quorum at_j is is1 is2 seen free members counted in
-      let within : j < length leaders =
-      place_within (λ (x : Leader T ID D). same_leader k x.term x.id t c) leaders j l at_j in
-      let q3 : l ≡ l3 = same_item leaders j l l3 within is is3 in
-      let short : n ≤ length l3.log.items =
-      subst (λ (x : Leader T ID D). n ≤ length x.log.items) q3 (commit_short l n m free) in
-      commit_seen k exact es t c n m servers leaders j l3 lnew at_j is3 seen
-      (tested ∙ ap (λ b. unless b NoQuorum None) enough) short acked same
+  pub campaign_passed : (es : List (TraceEvent T ID D)) (t : T) (c : ID) (p : Parts T ID D) (i : ℕ) (s : Server ID)
+      → position (is_server c) p.servers ≡ Some i → s ≡ get_or p.servers i s
+      → position (is_leader t c) p.leaders ≡ None → Keeps k es p → k.rank t ≤ s.term
+      → (broken_rule k (Campaigned c t) es ≡ Some PassedTerm) × Keeps k es p
+  campaign_passed es t c p i s at is absent keeps below = (
+    (campaign_refused k exact es t c (servers_in p) (servers_in p) (leaders_in p) i (server_in p.logs s)
+        (server_place p c i at, inl refl) (item_map (server_in p.logs) p.servers i s is)
+        (leader_place_in p t c None absent) keeps.seen below).0,
+    keeps,
+  )
 
-  -- what is seen of the server and of the leader of an event that applies entries
-  apply_test : (es : List (TraceEvent T ID D)) (id : ID) (t : T) (c : ID) (n : ℕ)
-      (old servers : List (Server T ID D)) (leaders : List (Leader T ID D)) (i j : ℕ)
-      (s : Server T ID D) (l : Leader T ID D)
-      → HasPlace (λ (x : Server T ID D). k.same_id x.id id) id old servers i → s ≡ get_or servers i s
-      → position (λ (x : Leader T ID D). same_leader k x.term x.id t c) leaders ≡ Some j
-      → l ≡ get_or leaders j l → HasSeen k es old leaders
-      → (broken_rule k (Applied id t c n) es ≡ option_or (apply_rule (same_entry k) s l n)
-      (unless (list_any (knows k.rank (same_entry k) (k.rank t) (take n l.log.items)) leaders) NotCommitted None))
-      × HasSeen k es servers leaders
-  apply_test es id t c n old servers leaders i j s l place is at_j is_l seen =
-      let now : HasSeen k es servers leaders = see_place k exact es id old servers i leaders place seen in
-      let at_s : SeesServer k (events_in k es id) s =
-      rw is (server_seen k exact es servers id i s now.see_servers place.0) in
-      let at_l : SeesLeader k es t c l = rw is_l (leader_seen k exact es leaders t c j l now.see_leaders at_j) in
-      (apply_right k exact es servers leaders id t c n s l now at_s at_l, now)
+  -- a server has not campaigned in a term that it has not reached
+  no_campaign : (es : List (TraceEvent T ID D)) (t : T) (c : ID) (p : Parts T ID D) (i : ℕ) (s : Server ID)
+      → position (is_server c) p.servers ≡ Some i → s ≡ get_or p.servers i s → Keeps k es p
+      → s.term < k.rank t → position (is_leader t c) p.leaders ≡ None
+  no_campaign es t c p i s at is keeps above = go (position (is_leader t c) p.leaders) refl
+    where
+      go : (o : Option ℕ) → position (is_leader t c) p.leaders ≡ o → o ≡ None
+      go None e = refl
+      go (Some j) e =
+          let found : (l : Leader T ID) × (find (is_leader t c) p.leaders ≡ Some l) = found_some (is_leader t c) p.leaders j e in
+          let at_l : SeesLeader k es t c (leader_in p.logs (get_or p.leaders j found.0)) =
+          subst (λ (x : LeaderState T ID D). SeesLeader k es t c x)
+          (get_map (leader_in p.logs) p.leaders j found.0)
+          (leader_seen k exact es (leaders_in p) t c j (leader_in p.logs found.0) keeps.seen.see_leaders
+          (leader_place_in p t c (Some j) e)) in
+          let at_s : SeesServer k (events_in k es c) (server_in p.logs s) = sees_server_at es p c i s at is keeps in
+          let below : k.rank t ≤ s.term = at_s.votes t c (at_l.voted c ∙ at_l.own_vote) in
+          absurd (omega (arith, below, above))
 
-  pub apply_refused : (es : List (TraceEvent T ID D)) (id : ID) (t : T) (c : ID) (n : ℕ)
-      (old servers : List (Server T ID D)) (leaders : List (Leader T ID D)) (i j : ℕ)
-      (s : Server T ID D) (l : Leader T ID D) (r : Rule)
-      → HasPlace (λ (x : Server T ID D). k.same_id x.id id) id old servers i → s ≡ get_or servers i s
-      → position (λ (x : Leader T ID D). same_leader k x.term x.id t c) leaders ≡ Some j
-      → l ≡ get_or leaders j l → HasSeen k es old leaders → apply_rule (same_entry k) s l n ≡ Some r
-      → (broken_rule k (Applied id t c n) es ≡ Some r) × HasSeen k es servers leaders
-  apply_refused es id t c n old servers leaders i j s l r place is at_j is_l seen broken =
-      let test = apply_test es id t c n old servers leaders i j s l place is at_j is_l seen in (
-        test.0 ∙ ap (λ (o : Option Rule). option_or o
-            (unless (list_any (knows k.rank (same_entry k) (k.rank t) (take n l.log.items)) leaders) NotCommitted None))
-            broken,
-        test.1,
+  pub campaign_done : (es : List (TraceEvent T ID D)) (t : T) (c : ID) (p : Parts T ID D) (i : ℕ)
+      (s0 s new : Server ID) (lnew : Leader T ID) (config : Option D)
+      → position (is_server c) p.servers ≡ Some i
+      → s0 ≡ get_or p.servers i s0 → s ≡ get_or p.servers i s
+      → Keeps k es p → s0.term < k.rank t
+      → new.id ≡ s.id → new.term ≡ max s.term (k.rank t) → new.voted ≡ k.rank t → new.log ≡ s.log
+      → new.durable ≡ s.durable
+      → new.kept.items ≡ kept_after s.kept.items s.term (length (log_at p.logs s.log)) (k.rank t)
+      → lnew.elected ≡ k.quorum_of config (is_member k.same_id (c ∷ []))
+      → config ≡ effective_config k.config_of k.initial (log_at p.logs s.log)
+      → lnew.acked.items ≡ []
+      → LeaderIs (leader_in p.logs lnew) t c (length (log_at p.logs s.log)) (log_at p.logs s.log) (c ∷ []) lnew.elected None
+      → lnew.log ≡ s.log
+      → (broken_rule k (Campaigned c t) es ≡ None)
+      × Keeps k (Campaigned c t ∷ es) (with_leaders (with_server p i new) (lnew ∷ p.leaders))
+  campaign_done es t c p i s0 s new lnew config at is0 is keeps above same_id term vote log dur kept elected is_config acked
+      same same_log =
+      let within : i < length p.servers = within_of (is_server c) p.servers i s at in
+      let one : s0 ≡ s = same_item p.servers i s0 s within is0 is in
+      let old_log : s.log < length p.logs.logs = keeps.have_logs.of_servers i s within is in
+      let done = campaign_seen k exact es t c (servers_in p) (leaders_in p) i (server_in p.logs s) (server_in p.logs new)
+      (leader_in p.logs lnew) (server_place p c i at) (item_map (server_in p.logs) p.servers i s is)
+      (leader_place_in p t c None (no_campaign es t c p i s0 at is0 keeps above)) keeps.seen
+      (subst (λ (x : Server ID). x.term < k.rank t) one above)
+      same_id term vote (ap (log_at p.logs) log) dur kept
+      (elected ∙ ap (λ x. k.quorum_of x (is_member k.same_id (c ∷ []))) is_config) acked same in (
+        done.0,
+        record {
+          are_logs = keeps.are_logs;
+          have_logs = have_more (with_server p i new) lnew
+              (have_server p i new keeps.have_logs within (rw log old_log)) (rw same_log old_log);
+          seen = subst (λ (x : List (ServerState T ID D)). HasSeen k (Campaigned c t ∷ es) x (leader_in p.logs lnew ∷ leaders_in p))
+              (sym (map-set (server_in p.logs) p.servers i new)) done.1;
+        },
       )
+
+  -- ---- entries that a leader writes
+
+  pub write_refused : (es : List (TraceEvent T ID D)) (t : T) (c : ID) (e : Entry T D) (p : Parts T ID D) (j : ℕ)
+      (l : Leader T ID) (r : Rule) (holds : D → Bool) → ((d : D) → k.config_of d ≡ config_in holds d)
+      → k.initial ≡ None → position (is_leader t c) p.leaders ≡ Some j → l ≡ get_or p.leaders j l → Keeps k es p
+      → write_rule k.same_term holds k.intersect (leader_in p.logs l) t e ≡ Some r
+      → (broken_rule k (Wrote c t e) es ≡ Some r) × Keeps k es p
+  write_refused es t c e p j l r holds is_holds initial at_j is_l keeps broken = (
+    write_right k exact es t c e (leader_in p.logs l) holds is_holds initial
+        (sees_leader_at es p t c j l at_j is_l keeps) ∙ broken,
+    keeps,
+  )
+
+  pub write_done : (es : List (TraceEvent T ID D)) (t : T) (c : ID) (e : Entry T D) (p : Parts T ID D) (j : ℕ)
+      (logs : AllLogs T D) (l0 l1 l lnew : Leader T ID) (holds : D → Bool) → ((d : D) → k.config_of d ≡ config_in holds d)
+      → k.initial ≡ None → position (is_leader t c) p.leaders ≡ Some j
+      → l0 ≡ get_or p.leaders j l0 → l1 ≡ get_or p.leaders j l1 → l ≡ get_or p.leaders j l → Keeps k es p
+      → write_rule k.same_term holds k.intersect (leader_in p.logs l0) t e ≡ None
+      → IsChild (λ d. is_some (k.config_of d)) p.logs l1.log e logs lnew.log
+      → lnew.acked.items ≡ l.acked.items → lnew.term ≡ l.term → lnew.id ≡ l.id → lnew.start ≡ l.start
+      → lnew.voters.items ≡ l.voters.items → lnew.elected ≡ l.elected → lnew.committed ≡ l.committed
+      → (broken_rule k (Wrote c t e) es ≡ None)
+      × Keeps k (Wrote c t e ∷ es) (record { logs = logs; servers = p.servers; leaders = set p.leaders j lnew })
+  write_done es t c e p j logs l0 l1 l lnew holds is_holds initial at_j is_l0 is_l1 is_l keeps free child acked term id start
+      voters elected committed =
+      let within_j : j < length p.leaders = within_of (is_leader t c) p.leaders j l at_j in
+      let one : l0 ≡ l = same_item p.leaders j l0 l within_j is_l0 is_l in
+      let other : l1 ≡ l = same_item p.leaders j l1 l within_j is_l1 is_l in
+      let at_l : SeesLeader k es t c (leader_in p.logs l) = sees_leader_at es p t c j l at_j is_l keeps in
+      let now : write_rule k.same_term holds k.intersect (leader_in p.logs l) t e ≡ None =
+      subst (λ (x : Leader T ID). write_rule k.same_term holds k.intersect (leader_in p.logs x) t e ≡ None) one free in
+      let new_log : log_at logs lnew.log ≡ log_at p.logs l.log ++ e ∷ [] =
+      child.is ∙ ap (λ (x : Leader T ID). log_at p.logs x.log ++ e ∷ []) other in
+      let done = write_seen k exact es t c e (servers_in p) (leaders_in p) j (leader_in p.logs l) (leader_in logs lnew)
+      (leader_place_in p t c (Some j) at_j) (item_map (leader_in p.logs) p.leaders j l is_l) keeps.seen
+      (write_right k exact es t c e (leader_in p.logs l) holds is_holds initial at_l ∙ now) acked
+      (record {
+        term = term;
+        id = id;
+        start = start;
+        log = new_log;
+        voters = voters;
+        elected = elected;
+        committed = committed;
+      }) in
+      let same_s : map (server_in logs) p.servers ≡ servers_in p =
+      same_servers p.logs logs p.servers (λ i s h is. child.kept s.log (keeps.have_logs.of_servers i s h is)) in
+      let same_l : map (leader_in logs) p.leaders ≡ leaders_in p =
+      same_leaders p.logs logs p.leaders (λ i x h is. child.kept x.log (keeps.have_logs.of_leaders i x h is)) in
+      let grown : Parts T ID D = record { logs = logs; servers = p.servers; leaders = p.leaders } in
+      let have : HaveLogs grown = record {
+        of_servers = λ i s h is.
+            (let o : s.log < length p.logs.logs = keeps.have_logs.of_servers i s h is in omega (arith, o, child.more));
+        of_leaders = λ i x h is.
+            (let o : x.log < length p.logs.logs = keeps.have_logs.of_leaders i x h is in omega (arith, o, child.more));
+      } in (
+        done.0,
+        record {
+          are_logs = child.logs;
+          have_logs = have_leader grown j lnew have within_j child.within;
+          seen = subst (λ (x : List (LeaderState T ID D)). HasSeen k (Wrote c t e ∷ es) (map (server_in logs) p.servers) x)
+              (ap (λ (x : List (LeaderState T ID D)). set x j (leader_in logs lnew)) (sym same_l)
+              ∙ sym (map-set (leader_in logs) p.leaders j lnew))
+              (subst (λ (x : List (ServerState T ID D)). HasSeen k (Wrote c t e ∷ es) x (set (leaders_in p) j (leader_in logs lnew)))
+              (sym same_s) done.1);
+        },
+      )
+
+  -- ---- commits
+
+  pub commit_refused : (es : List (TraceEvent T ID D)) (t : T) (c : ID) (n m : ℕ) (p : Parts T ID D) (j : ℕ)
+      (l : Leader T ID) (r : Rule) → position (is_leader t c) p.leaders ≡ Some j → l ≡ get_or p.leaders j l
+      → Keeps k es p → commit_rule (leader_in p.logs l) n m ≡ Some r
+      → (broken_rule k (Committed c t n m) es ≡ Some r) × Keeps k es p
+  commit_refused es t c n m p j l r at_j is_l keeps broken =
+      let at_l : SeesLeader k es t c (leader_in p.logs l) = sees_leader_at es p t c j l at_j is_l keeps in
+      let quorum : Bool =
+      is_quorum_of_log k (take m (log_at p.logs l.log)) (λ v. has_acked_to k.same_id l.acked.items v n) in (
+        commit_right k exact es t c n m (leader_in p.logs l) quorum at_l refl
+            ∙ commit_first k exact (leader_in p.logs l) n m r (unless quorum NoQuorum None) broken,
+        keeps,
+      )
+
+  commit_short : (l : LeaderState T ID D) (n m : ℕ) → commit_rule l n m ≡ None → n ≤ length l.log
+  commit_short l n m e =
+      go l.elected (nat_lt l.start n) (nat_le n m) (nat_le m (length l.log)) refl refl e
+    where
+      go : (a b x y : Bool) → nat_le n m ≡ x → nat_le m (length l.log) ≡ y
+          → unless a NotElected (unless b EarlierTerm (unless x CountedEarly (unless y NotWritten None))) ≡ None
+          → n ≤ length l.log
+      go true true true true q w h =
+          let u : n ≤ m = leb-true n m q in
+          let v : m ≤ length l.log = leb-true m (length l.log) w in
+          omega arith
+      go true true true false q w h = absurd (cc)
+      go true true false y q w h = absurd (cc)
+      go true false x y q w h = absurd (cc)
+      go false b x y q w h = absurd (cc)
+
+  -- the quorum of a commit is tested
+  commit_tested : (es : List (TraceEvent T ID D)) (t : T) (c : ID) (n m : ℕ) (p : Parts T ID D) (j : ℕ)
+      (l l1 l2 : Leader T ID) (ids : List ID) (config : Option D) (quorum : Bool)
+      → position (is_leader t c) p.leaders ≡ Some j
+      → l ≡ get_or p.leaders j l → l1 ≡ get_or p.leaders j l1 → l2 ≡ get_or p.leaders j l2
+      → Keeps k es p → commit_rule (leader_in p.logs l) n m ≡ None
+      → ((v : ID) → is_member k.same_id ids v ≡ has_acked_to k.same_id l1.acked.items v n)
+      → config ≡ effective_config k.config_of k.initial (take m (log_at p.logs l2.log))
+      → quorum ≡ k.quorum_of config (is_member k.same_id ids)
+      → broken_rule k (Committed c t n m) es ≡ unless quorum NoQuorum None
+  commit_tested es t c n m p j l l1 l2 ids config quorum at_j is is1 is2 keeps free members is_config counted =
+      let within : j < length p.leaders = within_of (is_leader t c) p.leaders j l at_j in
+      let q1 : l1 ≡ l = same_item p.leaders j l1 l within is1 is in
+      let q2 : l2 ≡ l = same_item p.leaders j l2 l within is2 is in
+      let at_l : SeesLeader k es t c (leader_in p.logs l) = sees_leader_at es p t c j l at_j is keeps in
+      let by_ids : (v : ID) → has_acked_to k.same_id l.acked.items v n ≡ is_member k.same_id ids v =
+      λ v. sym (members v ∙ ap (λ (x : Leader T ID). has_acked_to k.same_id x.acked.items v n) q1) in
+      let in_effect : config ≡ effective_config k.config_of k.initial (take m (log_at p.logs l.log)) =
+      is_config ∙ ap (λ (x : Leader T ID). effective_config k.config_of k.initial (take m (log_at p.logs x.log))) q2 in
+      let tested : is_quorum_of_log k (take m (log_at p.logs l.log)) (λ v. has_acked_to k.same_id l.acked.items v n)
+      ≡ quorum =
+      (λ q. is_quorum_of_log k (take m (log_at p.logs l.log)) (λ v. by_ids v q))
+      ∙ sym (counted ∙ ap (λ x. k.quorum_of x (is_member k.same_id ids)) in_effect) in
+      commit_right k exact es t c n m (leader_in p.logs l) quorum at_l tested
+      ∙ commit_then k exact (leader_in p.logs l) n m (unless quorum NoQuorum None) free
+
+  pub commit_uncounted : (es : List (TraceEvent T ID D)) (t : T) (c : ID) (n m : ℕ) (p : Parts T ID D) (j : ℕ)
+      (l l1 l2 : Leader T ID) (ids : List ID) (config : Option D) (quorum : Bool)
+      → position (is_leader t c) p.leaders ≡ Some j
+      → l ≡ get_or p.leaders j l → l1 ≡ get_or p.leaders j l1 → l2 ≡ get_or p.leaders j l2
+      → Keeps k es p → commit_rule (leader_in p.logs l) n m ≡ None
+      → ((v : ID) → is_member k.same_id ids v ≡ has_acked_to k.same_id l1.acked.items v n)
+      → config ≡ effective_config k.config_of k.initial (take m (log_at p.logs l2.log))
+      → quorum ≡ k.quorum_of config (is_member k.same_id ids) → quorum ≡ false
+      → (broken_rule k (Committed c t n m) es ≡ Some NoQuorum) × Keeps k es p
+  commit_uncounted es t c n m p j l l1 l2 ids config quorum at_j is is1 is2 keeps free members is_config counted few = (
+    commit_tested es t c n m p j l l1 l2 ids config quorum at_j is is1 is2 keeps free members is_config counted
+        ∙ ap (λ b. unless b NoQuorum None) few,
+    keeps,
+  )
+
+  pub commit_done : (es : List (TraceEvent T ID D)) (t : T) (c : ID) (n m : ℕ) (p : Parts T ID D) (j : ℕ)
+      (l l1 l2 l3 lnew : Leader T ID) (ids : List ID) (config : Option D) (quorum : Bool)
+      → position (is_leader t c) p.leaders ≡ Some j
+      → l ≡ get_or p.leaders j l → l1 ≡ get_or p.leaders j l1 → l2 ≡ get_or p.leaders j l2
+      → l3 ≡ get_or p.leaders j l3
+      → Keeps k es p → commit_rule (leader_in p.logs l) n m ≡ None
+      → ((v : ID) → is_member k.same_id ids v ≡ has_acked_to k.same_id l1.acked.items v n)
+      → config ≡ effective_config k.config_of k.initial (take m (log_at p.logs l2.log))
+      → quorum ≡ k.quorum_of config (is_member k.same_id ids) → quorum ≡ true
+      → lnew.acked.items ≡ l3.acked.items
+      → LeaderIs (leader_in p.logs lnew) l3.term l3.id l3.start (log_at p.logs l3.log) l3.voters.items l3.elected
+      (Some (max (unwrap_or l3.committed 0) n))
+      → lnew.log ≡ l3.log
+      → (broken_rule k (Committed c t n m) es ≡ None)
+      × Keeps k (Committed c t n m ∷ es) (with_leader p j lnew)
+  commit_done es t c n m p j l l1 l2 l3 lnew ids config quorum at_j is is1 is2 is3 keeps free members is_config counted enough
+      acked same same_log =
+      let tested : broken_rule k (Committed c t n m) es ≡ unless quorum NoQuorum None =
+      commit_tested es t c n m p j l l1 l2 ids config quorum at_j is is1 is2 keeps free members is_config counted in
+      let within : j < length p.leaders = within_of (is_leader t c) p.leaders j l at_j in
+      let q3 : l ≡ l3 = same_item p.leaders j l l3 within is is3 in
+      let short : n ≤ length (log_at p.logs l3.log) =
+      subst (λ (x : Leader T ID). n ≤ length (log_at p.logs x.log)) q3 (commit_short (leader_in p.logs l) n m free) in
+      let done = commit_seen k exact es t c n m (servers_in p) (leaders_in p) j (leader_in p.logs l3) (leader_in p.logs lnew)
+      (leader_place_in p t c (Some j) at_j) (item_map (leader_in p.logs) p.leaders j l3 is3) keeps.seen
+      (tested ∙ ap (λ b. unless b NoQuorum None) enough) short acked same in (
+        done.0,
+        keeps_leader (Committed c t n m ∷ es) p j lnew within
+            (rw same_log (keeps.have_logs.of_leaders j l3 within is3)) done.1 es keeps,
+      )
+
+  -- ---- what is applied
+
+  apply_test : (es : List (TraceEvent T ID D)) (id : ID) (t : T) (c : ID) (n : ℕ) (p : Parts T ID D) (i j : ℕ)
+      (s : Server ID) (l : Leader T ID)
+      → position (is_server id) p.servers ≡ Some i → s ≡ get_or p.servers i s
+      → position (is_leader t c) p.leaders ≡ Some j → l ≡ get_or p.leaders j l → Keeps k es p
+      → broken_rule k (Applied id t c n) es
+      ≡ option_or (apply_rule (same_entry k) (server_in p.logs s) (leader_in p.logs l) n)
+      (unless (list_any (knows k.rank (same_entry k) (k.rank t) (take n (log_at p.logs l.log))) (leaders_in p)) NotCommitted None)
+  apply_test es id t c n p i j s l at is at_j is_l keeps =
+      apply_right k exact es (servers_in p) (leaders_in p) id t c n (server_in p.logs s) (leader_in p.logs l) keeps.seen
+      (sees_server_at es p id i s at is keeps) (sees_leader_at es p t c j l at_j is_l keeps)
+
+  pub apply_refused : (es : List (TraceEvent T ID D)) (id : ID) (t : T) (c : ID) (n : ℕ) (p : Parts T ID D) (i j : ℕ)
+      (s : Server ID) (l : Leader T ID) (r : Rule)
+      → position (is_server id) p.servers ≡ Some i → s ≡ get_or p.servers i s
+      → position (is_leader t c) p.leaders ≡ Some j → l ≡ get_or p.leaders j l → Keeps k es p
+      → apply_rule (same_entry k) (server_in p.logs s) (leader_in p.logs l) n ≡ Some r
+      → (broken_rule k (Applied id t c n) es ≡ Some r) × Keeps k es p
+  apply_refused es id t c n p i j s l r at is at_j is_l keeps broken = (
+    apply_test es id t c n p i j s l at is at_j is_l keeps
+        ∙ ap (λ (o : Option Rule). option_or o
+        (unless (list_any (knows k.rank (same_entry k) (k.rank t) (take n (log_at p.logs l.log))) (leaders_in p)) NotCommitted None))
+        broken,
+    keeps,
+  )
 
   -- the first entries are read of the leader a second time
-  apply_known : (es : List (TraceEvent T ID D)) (id : ID) (t : T) (c : ID) (n : ℕ)
-      (old servers : List (Server T ID D)) (leaders : List (Leader T ID D)) (i j : ℕ)
-      (s : Server T ID D) (l l2 : Leader T ID D) (known : Bool)
-      → HasPlace (λ (x : Server T ID D). k.same_id x.id id) id old servers i → s ≡ get_or servers i s
-      → position (λ (x : Leader T ID D). same_leader k x.term x.id t c) leaders ≡ Some j
-      → l ≡ get_or leaders j l → l2 ≡ get_or leaders j l2 → HasSeen k es old leaders
-      → apply_rule (same_entry k) s l n ≡ None
-      → known ≡ list_any (knows k.rank (same_entry k) (k.rank t) (take n l2.log.items)) leaders
-      → (broken_rule k (Applied id t c n) es ≡ unless known NotCommitted None)
-      × HasSeen k es servers leaders
-  apply_known es id t c n old servers leaders i j s l l2 known place is at_j is_l is_l2 seen free is_known =
-      let test = apply_test es id t c n old servers leaders i j s l place is at_j is_l seen in
-      let q : l2 ≡ l =
-      same_item leaders j l2 l (place_within (λ (x : Leader T ID D). same_leader k x.term x.id t c) leaders j l at_j)
-      is_l2 is_l in
-      let known_l : known ≡ list_any (knows k.rank (same_entry k) (k.rank t) (take n l.log.items)) leaders =
-      is_known ∙ ap (λ (x : Leader T ID D). list_any (knows k.rank (same_entry k) (k.rank t) (take n x.log.items)) leaders) q in (
-        test.0
-            ∙ ap (λ (o : Option Rule). option_or o
-            (unless (list_any (knows k.rank (same_entry k) (k.rank t) (take n l.log.items)) leaders) NotCommitted None))
-            free
-            ∙ ap (λ b. unless b NotCommitted None) (sym known_l),
-        test.1,
-      )
+  apply_known : (es : List (TraceEvent T ID D)) (id : ID) (t : T) (c : ID) (n prefix : ℕ) (p : Parts T ID D) (i j : ℕ)
+      (s : Server ID) (l l2 : Leader T ID) (known : Bool)
+      → position (is_server id) p.servers ≡ Some i → s ≡ get_or p.servers i s
+      → position (is_leader t c) p.leaders ≡ Some j → l ≡ get_or p.leaders j l → l2 ≡ get_or p.leaders j l2
+      → Keeps k es p → apply_rule (same_entry k) (server_in p.logs s) (leader_in p.logs l) n ≡ None
+      → log_at p.logs prefix ≡ take n (log_at p.logs l2.log)
+      → known ≡ list_any (knows k.rank (same_entry k) (k.rank t) (log_at p.logs prefix)) (leaders_in p)
+      → broken_rule k (Applied id t c n) es ≡ unless known NotCommitted None
+  apply_known es id t c n prefix p i j s l l2 known at is at_j is_l is_l2 keeps free first is_known =
+      let within : j < length p.leaders = within_of (is_leader t c) p.leaders j l at_j in
+      let q : l2 ≡ l = same_item p.leaders j l2 l within is_l2 is_l in
+      let known_l : known ≡ list_any (knows k.rank (same_entry k) (k.rank t) (take n (log_at p.logs l.log))) (leaders_in p) =
+      is_known ∙ ap (λ x. list_any (knows k.rank (same_entry k) (k.rank t) x) (leaders_in p))
+      (first ∙ ap (λ (x : Leader T ID). take n (log_at p.logs x.log)) q) in
+      apply_test es id t c n p i j s l at is at_j is_l keeps
+      ∙ ap (λ (o : Option Rule). option_or o
+      (unless (list_any (knows k.rank (same_entry k) (k.rank t) (take n (log_at p.logs l.log))) (leaders_in p)) NotCommitted None))
+      free
+      ∙ ap (λ b. unless b NotCommitted None) (sym known_l)
 
-  pub apply_uncommitted : (es : List (TraceEvent T ID D)) (id : ID) (t : T) (c : ID) (n : ℕ)
-      (old servers : List (Server T ID D)) (leaders : List (Leader T ID D)) (i j : ℕ)
-      (s : Server T ID D) (l l2 : Leader T ID D) (known : Bool)
-      → HasPlace (λ (x : Server T ID D). k.same_id x.id id) id old servers i → s ≡ get_or servers i s
-      → position (λ (x : Leader T ID D). same_leader k x.term x.id t c) leaders ≡ Some j
-      → l ≡ get_or leaders j l → l2 ≡ get_or leaders j l2 → HasSeen k es old leaders
-      → apply_rule (same_entry k) s l n ≡ None
-      → known ≡ list_any (knows k.rank (same_entry k) (k.rank t) (take n l2.log.items)) leaders
-      → known ≡ false
-      → (broken_rule k (Applied id t c n) es ≡ Some NotCommitted) × HasSeen k es servers leaders
-  apply_uncommitted es id t c n old servers leaders i j s l l2 known place is at_j is_l is_l2 seen free is_known none =
-      let test = apply_known es id t c n old servers leaders i j s l l2 known place is at_j is_l is_l2 seen free is_known in
-      (test.0 ∙ ap (λ b. unless b NotCommitted None) none, test.1)
+  pub apply_uncommitted : (es : List (TraceEvent T ID D)) (id : ID) (t : T) (c : ID) (n prefix : ℕ) (p : Parts T ID D) (i j : ℕ)
+      (s : Server ID) (l l2 : Leader T ID) (known : Bool)
+      → position (is_server id) p.servers ≡ Some i → s ≡ get_or p.servers i s
+      → position (is_leader t c) p.leaders ≡ Some j → l ≡ get_or p.leaders j l → l2 ≡ get_or p.leaders j l2
+      → Keeps k es p → apply_rule (same_entry k) (server_in p.logs s) (leader_in p.logs l) n ≡ None
+      → log_at p.logs prefix ≡ take n (log_at p.logs l2.log)
+      → known ≡ list_any (knows k.rank (same_entry k) (k.rank t) (log_at p.logs prefix)) (leaders_in p)
+      → known ≡ false → (broken_rule k (Applied id t c n) es ≡ Some NotCommitted) × Keeps k es p
+  apply_uncommitted es id t c n prefix p i j s l l2 known at is at_j is_l is_l2 keeps free first is_known none = (
+    apply_known es id t c n prefix p i j s l l2 known at is at_j is_l is_l2 keeps free first is_known
+        ∙ ap (λ b. unless b NotCommitted None) none,
+    keeps,
+  )
 
-  pub apply_done : (es : List (TraceEvent T ID D)) (id : ID) (t : T) (c : ID) (n : ℕ)
-      (old servers : List (Server T ID D)) (leaders : List (Leader T ID D)) (i j : ℕ)
-      (s : Server T ID D) (l l2 : Leader T ID D) (known : Bool)
-      → HasPlace (λ (x : Server T ID D). k.same_id x.id id) id old servers i → s ≡ get_or servers i s
-      → position (λ (x : Leader T ID D). same_leader k x.term x.id t c) leaders ≡ Some j
-      → l ≡ get_or leaders j l → l2 ≡ get_or leaders j l2 → HasSeen k es old leaders
-      → apply_rule (same_entry k) s l n ≡ None
-      → known ≡ list_any (knows k.rank (same_entry k) (k.rank t) (take n l2.log.items)) leaders
+  pub apply_done : (es : List (TraceEvent T ID D)) (id : ID) (t : T) (c : ID) (n prefix : ℕ) (p : Parts T ID D) (i j : ℕ)
+      (s : Server ID) (l l2 : Leader T ID) (known : Bool)
+      → position (is_server id) p.servers ≡ Some i → s ≡ get_or p.servers i s
+      → position (is_leader t c) p.leaders ≡ Some j → l ≡ get_or p.leaders j l → l2 ≡ get_or p.leaders j l2
+      → Keeps k es p → apply_rule (same_entry k) (server_in p.logs s) (leader_in p.logs l) n ≡ None
+      → log_at p.logs prefix ≡ take n (log_at p.logs l2.log)
+      → known ≡ list_any (knows k.rank (same_entry k) (k.rank t) (log_at p.logs prefix)) (leaders_in p)
       → known ≡ true
-      → (broken_rule k (Applied id t c n) es ≡ None) × HasSeen k (Applied id t c n ∷ es) servers leaders
-  apply_done es id t c n old servers leaders i j s l l2 known place is at_j is_l is_l2 seen free is_known found =
-      let test = apply_known es id t c n old servers leaders i j s l l2 known place is at_j is_l is_l2 seen free is_known in
-      apply_seen k exact es servers leaders id t c n test.1 (test.0 ∙ ap (λ b. unless b NotCommitted None) found)
+      → (broken_rule k (Applied id t c n) es ≡ None) × Keeps k (Applied id t c n ∷ es) p
+  apply_done es id t c n prefix p i j s l l2 known at is at_j is_l is_l2 keeps free first is_known found =
+      let ok : broken_rule k (Applied id t c n) es ≡ None =
+      apply_known es id t c n prefix p i j s l l2 known at is at_j is_l is_l2 keeps free first is_known
+      ∙ ap (λ b. unless b NotCommitted None) found in
+      let done = apply_seen k exact es (servers_in p) (leaders_in p) id t c n keeps.seen ok in (
+        done.0,
+        record {
+          are_logs = keeps.are_logs;
+          have_logs = keeps.have_logs;
+          seen = done.1;
+        },
+      )

@@ -13,7 +13,6 @@ use Rattle.std.specs.Prelude.{
   ◌||◌,
   nat_le,
   if◌then◌else◌,
-  Option,
   Some,
   None,
   List,
@@ -25,15 +24,13 @@ use Rattle.std.specs.Prelude.{
   drop,
   get_or,
 }
-use Rattle.std.specs.List.{list_any, list_all, position, position_or_len}
+use Rattle.std.specs.List.{list_any, position, position_or_len}
 use Rattle.std.specs.Option.{unwrap_or}
 use Rattle.std.proofs.Common.{refl, sym, ap, subst, ◌∙◌, arith}
 use Rattle.std.proofs.lemmas.Bool.{ltb-true}
 use Rattle.std.proofs.lemmas.List.{drop_all, drop_more}
 use Rattle.std.proofs.lemmas.List.Folds.{list_any-append}
-use Rattle.raft_safety.specs.Log.{Entry}
-use Rattle.raft_safety.specs.Configs.{effective_config}
-use Rattle.raft_safety.specs.Inner.CheckerState.{config_in, has_acked_to}
+use Rattle.raft_safety.specs.Inner.CheckerState.{has_acked_to}
 use Rattle.raft_safety.specs.declared.checker.leader.Acked.{Acked}
 use Rattle.raft_safety.specs.Memberships.{held_by}
 
@@ -57,43 +54,6 @@ any_here p xs i x h is passes so_far =
 pub any_nowhere : {X : Type 0} (p : X → Bool) (xs : List X) (i : ℕ) → length xs ≤ i
     → list_any p (drop i xs) ≡ list_any p xs → false ≡ list_any p xs
 any_nowhere p xs i h so_far = sym (ap (list_any p) (drop_all i xs h)) ∙ so_far
-
--- if an element passes, all pass exactly if all later elements do
-pub all_later : {X : Type 0} (p : X → Bool) (xs : List X) (i : ℕ) (x : X) → i < length xs
-    → x ≡ get_or xs i x → p x ≡ true → list_all p (drop i xs) ≡ list_all p xs
-    → list_all p (drop (i + 1) xs) ≡ list_all p xs
-all_later p xs i x h is passes so_far =
-    ap (λ b. b && list_all p (drop (i + 1) xs)) (sym passes ∙ ap p is)
-    ∙ ap (list_all p) (sym (drop_more xs i x h)) ∙ so_far
-
--- if an element fails, not all pass
-pub not_all_here : {X : Type 0} (p : X → Bool) (xs : List X) (i : ℕ) (x : X) → i < length xs
-    → x ≡ get_or xs i x → p x ≡ false → list_all p (drop i xs) ≡ list_all p xs
-    → false ≡ list_all p xs
-not_all_here p xs i x h is fails so_far =
-    ap (λ b. b && list_all p (drop (i + 1) xs)) (sym fails ∙ ap p is)
-    ∙ ap (list_all p) (sym (drop_more xs i x h)) ∙ so_far
-
--- if no element is left and all have passed, all pass
-pub all_passed : {X : Type 0} (p : X → Bool) (xs : List X) (i : ℕ) → length xs ≤ i
-    → list_all p (drop i xs) ≡ list_all p xs → true ≡ list_all p xs
-all_passed p xs i h so_far = sym (ap (list_all p) (drop_all i xs h)) ∙ so_far
-
--- the config in effect at the end of a log, after one more entry is read
-pub config_later : {T D : Type 0} (holds : D → Bool) (log : List (Entry T D)) (i : ℕ) (e : Entry T D)
-    (d : D) (b : Bool) (config next all : Option D) → i < length log → e ≡ get_or log i e
-    → d ≡ e.content → holds d ≡ b → next ≡ (if b then Some d else config)
-    → effective_config (config_in holds) config (drop i log) ≡ all
-    → effective_config (config_in holds) next (drop (i + 1) log) ≡ all
-config_later {T} {D} holds log i e d b config next all h is content holds_is next_is so_far =
-    ap (λ c. effective_config (config_in holds) c (drop (i + 1) log))
-    (next_is ∙ sym (read b) ∙ ap (λ x. unwrap_or (if x then Some (Some d) else None) config) (sym holds_is)
-    ∙ ap (λ x. unwrap_or (config_in holds x) config) (content ∙ ap (λ (x : Entry T D). x.content) is))
-    ∙ ap (effective_config (config_in holds) config) (sym (drop_more log i e h)) ∙ so_far
-  where
-    read : (x : Bool) → unwrap_or (if x then Some (Some d) else None) config ≡ (if x then Some d else config)
-    read true = refl
-    read false = refl
 
 -- if an element has another content, a later element holds the membership of the content
 pub held_later : {X Q D : Type 0} (same : D → D → Bool) (d : D) (f : X → D × List Q) (xs : List X)

@@ -29,8 +29,6 @@ use Rattle.std.specs.Prelude.{
 use Rattle.std.specs.List.{list_any, list_all, position}
 use Rattle.raft_safety.specs.Log.{Entry, last_term}
 use Rattle.raft_safety.specs.Configs.{effective_config}
-use Rattle.raft_safety.specs.declared.checker.server.Server.{Server}
-use Rattle.raft_safety.specs.declared.checker.leader.Leader.{Leader}
 use Rattle.raft_safety.specs.Trace.{unless}
 use Rattle.raft_safety.specs.declared.rule.Rule.{Rule}
 use Rattle.raft_safety.specs.declared.rule.Rule.TheVariants.{
@@ -55,6 +53,28 @@ use Rattle.raft_safety.specs.declared.rule.Rule.TheVariants.{
 }
 use Rattle.raft_safety.specs.declared.checker.server.Kept.{Kept}
 use Rattle.raft_safety.specs.declared.checker.leader.Acked.{Acked}
+
+-- what is kept of a server, with the entries of its log
+pub record ServerState (T N D : Type 0) : Type 0 where
+  pub id : N
+  -- the rank of the term that it has reached, and of the term in which it has voted last
+  pub term : ℕ
+  pub voted : ℕ
+  pub log : List (Entry T D)
+  pub durable : ℕ
+  pub kept : List Kept
+
+-- what is kept of a candidate or leader, with the entries of its log
+pub record LeaderState (T N D : Type 0) : Type 0 where
+  pub term : T
+  pub id : N
+  -- the length of the log with which it asked for votes
+  pub start : ℕ
+  pub log : List (Entry T D)
+  pub voters : List N
+  pub elected : Bool
+  pub acked : List (Acked N)
+  pub committed : Option ℕ
 
 -- two entries are of one term and have one content
 abbrev pub same_entry_by : {T D : Type 0} → (T → T → Bool) → (D → D → Bool) → Entry T D → Entry T D
@@ -115,106 +135,106 @@ has_committed same log (Some n) p = nat_eq (common_len same p (take n log)) (len
 
 module _ {T N D : Type 0} where
   -- the first rule that a server's vote breaks, for a candidate that has campaigned in the term
-  abbrev pub grant_rule : (T → ℕ) → (N → N → Bool) → Server T N D → Leader T N D → N → ℕ → N
+  abbrev pub grant_rule : (T → ℕ) → (N → N → Bool) → ServerState T N D → LeaderState T N D → N → ℕ → N
       → Option Rule
   grant_rule rank eq s l id r c =
       unless (nat_le s.term r && nat_lt s.voted r) PassedTerm
       (unless (not (eq c id)) OwnCandidate
-      (unless (up_to_date_by rank (take l.start l.log.items) s.log.items) CandidateBehind None))
+      (unless (up_to_date_by rank (take l.start l.log) s.log) CandidateBehind None))
 
   -- the first rule that a server breaks if it keeps n entries of its log and appends these
-  abbrev pub append_rule : (Entry T D → Entry T D → Bool) → Server T N D → Leader T N D → ℕ → ℕ
+  abbrev pub append_rule : (Entry T D → Entry T D → Bool) → ServerState T N D → LeaderState T N D → ℕ → ℕ
       → List (Entry T D) → Option Rule
   append_rule same s l r n sent =
       unless l.elected NotElected
       (unless (nat_le s.term r) PassedTerm
-      (unless (nat_le n (length s.log.items)) MissingEntries
-      (unless (nat_le (common_len same s.log.items l.log.items)
-      (n + common_len same (drop n s.log.items) sent)) DropsMatching
-      (unless (nat_eq (common_len same (drop n s.log.items) sent) (length sent)
-      || (nat_le n (common_len same s.log.items l.log.items)
-      && nat_eq (common_len same (drop n l.log.items) sent) (length sent))) ForeignEntries None))))
+      (unless (nat_le n (length s.log)) MissingEntries
+      (unless (nat_le (common_len same s.log l.log)
+      (n + common_len same (drop n s.log) sent)) DropsMatching
+      (unless (nat_eq (common_len same (drop n s.log) sent) (length sent)
+      || (nat_le n (common_len same s.log l.log)
+      && nat_eq (common_len same (drop n l.log) sent) (length sent))) ForeignEntries None))))
 
   -- the log of a server has begun with these entries since its term was at most this rank
-  abbrev pub has_kept_by : (Entry T D → Entry T D → Bool) → Server T N D → ℕ → List (Entry T D)
+  abbrev pub has_kept_by : (Entry T D → Entry T D → Bool) → ServerState T N D → ℕ → List (Entry T D)
       → Bool
   has_kept_by same s r p =
-      nat_eq (common_len same p s.log.items) (length p)
-      && (nat_le s.term r || nat_le (length p) (kept_from 0 s.kept.items r))
+      nat_eq (common_len same p s.log) (length p)
+      && (nat_le s.term r || nat_le (length p) (kept_from 0 s.kept r))
 
   -- the first rule that a server's acknowledgement of n entries to its leader breaks
-  abbrev pub ack_rule : (Entry T D → Entry T D → Bool) → Server T N D → Leader T N D → ℕ → ℕ
+  abbrev pub ack_rule : (Entry T D → Entry T D → Bool) → ServerState T N D → LeaderState T N D → ℕ → ℕ
       → Option Rule
   ack_rule same s l r n =
       unless l.elected NotElected
       (unless (nat_le r s.term) TermNotReached
-      (unless (nat_le n (length l.log.items)) NotWritten
-      (unless (has_kept_by same s r (take n l.log.items)) NotKept None)))
+      (unless (nat_le n (length l.log)) NotWritten
+      (unless (has_kept_by same s r (take n l.log)) NotKept None)))
 
   -- the first rule that a server breaks if it applies the first n entries of its leader's log, besides
   -- that they are committed
-  abbrev pub apply_rule : (Entry T D → Entry T D → Bool) → Server T N D → Leader T N D → ℕ
+  abbrev pub apply_rule : (Entry T D → Entry T D → Bool) → ServerState T N D → LeaderState T N D → ℕ
       → Option Rule
   apply_rule same s l n =
       unless l.elected NotElected
-      (unless (nat_le n (length l.log.items)) NotWritten
-      (unless (nat_eq (common_len same (take n l.log.items) s.log.items) (length (take n l.log.items))) NotInLog
+      (unless (nat_le n (length l.log)) NotWritten
+      (unless (nat_eq (common_len same (take n l.log) s.log) (length (take n l.log))) NotInLog
       None))
 
   -- the first rule that a server's restart with its first n entries breaks
-  abbrev pub restart_rule : Server T N D → ℕ → Option Rule
+  abbrev pub restart_rule : ServerState T N D → ℕ → Option Rule
   restart_rule s n =
       unless (nat_le s.durable n) LostAcked
-      (unless (nat_le n (length s.log.items)) MissingEntries None)
+      (unless (nat_le n (length s.log)) MissingEntries None)
 
   -- the first rule that a leader's entry with this content breaks, if the content holds a config
-  abbrev pub config_rule : (D → Bool) → (Option D → Option D → Bool) → Leader T N D → D
+  abbrev pub config_rule : (D → Bool) → (Option D → Option D → Bool) → LeaderState T N D → D
       → Option Rule
   config_rule holds intersects l d =
       if holds d then
-      unless (intersects (effective_config (config_in holds) None l.log.items) (Some d)) ApartConfigs
+      unless (intersects (effective_config (config_in holds) None l.log) (Some d)) ApartConfigs
       (unless (intersects (Some d) (Some d)) ApartQuorums
-      (unless (config_committed (no_config_in holds) l.committed l.log.items) EarlyConfig None))
+      (unless (config_committed (no_config_in holds) l.committed l.log) EarlyConfig None))
       else None
 
   -- the first rule that a leader breaks when it writes this entry in this term
   abbrev pub write_rule : (T → T → Bool) → (D → Bool) → (Option D → Option D → Bool)
-      → Leader T N D → T → Entry T D → Option Rule
+      → LeaderState T N D → T → Entry T D → Option Rule
   write_rule same_term holds intersects l t e =
       unless l.elected NotElected
       (unless (same_term e.term t) OtherTerm (config_rule holds intersects l e.content))
 
   -- what a commit needs besides a quorum
-  abbrev pub commit_rule : Leader T N D → ℕ → ℕ → Option Rule
+  abbrev pub commit_rule : LeaderState T N D → ℕ → ℕ → Option Rule
   commit_rule l n m =
       unless l.elected NotElected
       (unless (nat_lt l.start n) EarlierTerm
       (unless (nat_le n m) CountedEarly
-      (unless (nat_le m (length l.log.items)) NotWritten None)))
+      (unless (nat_le m (length l.log)) NotWritten None)))
 
   -- a leader of a term of at most this rank has committed these entries
   abbrev pub knows : (T → ℕ) → (Entry T D → Entry T D → Bool) → ℕ → List (Entry T D)
-      → Leader T N D → Bool
-  knows rank same r p l = nat_le (rank l.term) r && has_committed same l.log.items l.committed p
+      → LeaderState T N D → Bool
+  knows rank same r p l = nat_le (rank l.term) r && has_committed same l.log l.committed p
 
 -- nothing is kept of a server
-pub record IsNew {T N D : Type 0} (id : N) (s : Server T N D) : Type 0 where
+pub record IsNew {T N D : Type 0} (id : N) (s : ServerState T N D) : Type 0 where
   pub is_id : s.id ≡ id
   pub term : s.term ≡ 0
   pub voted : s.voted ≡ 0
-  pub log : s.log.items ≡ []
+  pub log : s.log ≡ []
   pub durable : s.durable ≡ 0
-  pub kept : s.kept.items ≡ []
+  pub kept : s.kept ≡ []
 
 -- no server passed the test, and a new server of this id was added at the end
-pub record IsAdded {T N D : Type 0} (p : Server T N D → Bool) (id : N)
-    (old new : List (Server T N D)) : Type 0 where
+pub record IsAdded {T N D : Type 0} (p : ServerState T N D → Bool) (id : N)
+    (old new : List (ServerState T N D)) : Type 0 where
   pub absent : position p old ≡ None
-  pub server : Server T N D
+  pub server : ServerState T N D
   pub is_new : IsNew id server
   pub added : new ≡ old ++ server ∷ []
 
 -- the first server that passes the test is at place i: it was there, or it was added at the end
-abbrev pub HasPlace : {T N D : Type 0} → (Server T N D → Bool) → N → List (Server T N D)
-    → List (Server T N D) → ℕ → Type 0
+abbrev pub HasPlace : {T N D : Type 0} → (ServerState T N D → Bool) → N → List (ServerState T N D)
+    → List (ServerState T N D) → ℕ → Type 0
 HasPlace p id old new i = (position p new ≡ Some i) × ((new ≡ old) ⊎ IsAdded p id old new)

@@ -22,8 +22,8 @@ use Rattle.raft_safety.specs.Trace.{
   same_leader,
 }
 use Rattle.raft_safety.specs.Inner.CheckerState.{kept_from, has_acked_to, config_committed, common_len}
-use Rattle.raft_safety.specs.declared.checker.server.Server.{Server}
-use Rattle.raft_safety.specs.declared.checker.leader.Leader.{Leader}
+use Rattle.raft_safety.specs.Inner.CheckerState.{ServerState}
+use Rattle.raft_safety.specs.Inner.CheckerState.{LeaderState}
 
 module _ {T ID D M : Type 0} (k : Tests T ID D M) where
   -- how many first entries a server has kept since its term was at most this rank
@@ -35,35 +35,36 @@ module _ {T ID D M : Type 0} (k : Tests T ID D M) where
 
 module _ {T ID D : Type 0} (k : Tests T ID D (Option D)) where
   -- what is kept of a server is what its events say
-  pub record SeesServer (evs : List (Event T ID D)) (s : Server T ID D) : Type 0 where
+  pub record SeesServer (evs : List (Event T ID D)) (s : ServerState T ID D) : Type 0 where
     pub term : term_after k.rank evs ≡ s.term
     pub voted : voted_after k.rank evs ≡ s.voted
-    pub log : log_after evs ≡ s.log.items
+    pub log : log_after evs ≡ s.log
     pub durable : durable k evs ≡ s.durable
-    pub kept : (r : ℕ) → r < s.term → kept_at k r evs ≡ kept_from 0 s.kept.items r
+    pub kept : (r : ℕ) → r < s.term → kept_at k r evs ≡ kept_from 0 s.kept r
+    pub votes : (t : T) (c : ID) → has_voted k t c evs ≡ true → k.rank t ≤ s.term
 
   -- what is kept of the server of this id, if anything is
-  abbrev pub find_server : List (Server T ID D) → ID → Option (Server T ID D)
+  abbrev pub find_server : List (ServerState T ID D) → ID → Option (ServerState T ID D)
   find_server servers id = find (λ s. k.same_id s.id id) servers
 
   -- what is kept of each server is what its events say. A server that is not kept has no events
-  abbrev pub SeesServers : List (TraceEvent T ID D) → List (Server T ID D) → Type 0
+  abbrev pub SeesServers : List (TraceEvent T ID D) → List (ServerState T ID D) → Type 0
   SeesServers es servers =
       (id : ID) → MatchOption (find_server servers id) (events_in k es id ≡ []) (SeesServer (events_in k es id))
 
   -- what is kept of a candidate or leader is what the events say
-  pub record SeesLeader (es : List (TraceEvent T ID D)) (t : T) (c : ID) (l : Leader T ID D) : Type 0 where
+  pub record SeesLeader (es : List (TraceEvent T ID D)) (t : T) (c : ID) (l : LeaderState T ID D) : Type 0 where
     pub campaigned : has_campaigned k t c es ≡ true
-    pub start : l.start ≤ length l.log.items
-    pub candidate_log : candidate_log_in k es t c ≡ take l.start l.log.items
-    pub leader_log : leader_log_in k es t c ≡ l.log.items
-    pub voted : (v : ID) → has_voted k t c (events_in k es v) ≡ is_member k.same_id l.voters.items v
-    pub distinct : IsDistinct k.same_id l.voters.items
-    pub own_vote : is_member k.same_id l.voters.items c ≡ true
+    pub start : l.start ≤ length l.log
+    pub candidate_log : candidate_log_in k es t c ≡ take l.start l.log
+    pub leader_log : leader_log_in k es t c ≡ l.log
+    pub voted : (v : ID) → has_voted k t c (events_in k es v) ≡ is_member k.same_id l.voters v
+    pub distinct : IsDistinct k.same_id l.voters
+    pub own_vote : is_member k.same_id l.voters c ≡ true
     pub elected : is_elected k es t c ≡ l.elected
-    pub acked : (v : ID) (n : ℕ) → has_acked k t c n (events_in k es v) ≡ has_acked_to k.same_id l.acked.items v n
+    pub acked : (v : ID) (n : ℕ) → has_acked k t c n (events_in k es v) ≡ has_acked_to k.same_id l.acked v n
     pub committed : (log : List (Entry T D)) → is_config_committed k t c log es ≡ config_committed (hold_no_config k) l.committed log
-    pub within : MatchOption l.committed (Unit {0}) (λ n. n ≤ length l.log.items)
+    pub within : MatchOption l.committed (Unit {0}) (λ n. n ≤ length l.log)
 
   -- this server has not campaigned in this term, and no server has voted for it in time, or sent it
   -- acks
@@ -76,10 +77,10 @@ module _ {T ID D : Type 0} (k : Tests T ID D (Option D)) where
     pub committed : (log : List (Entry T D)) → is_config_committed k t c log es ≡ false
 
   -- what is kept of the candidate or leader of this term and id, if anything is
-  abbrev pub find_leader : List (Leader T ID D) → T → ID → Option (Leader T ID D)
+  abbrev pub find_leader : List (LeaderState T ID D) → T → ID → Option (LeaderState T ID D)
   find_leader leaders t c = find (λ l. same_leader k l.term l.id t c) leaders
 
   -- what is kept of each leader is what the events say. One that is not kept has not campaigned
-  abbrev pub SeesLeaders : List (TraceEvent T ID D) → List (Leader T ID D) → Type 0
+  abbrev pub SeesLeaders : List (TraceEvent T ID D) → List (LeaderState T ID D) → Type 0
   SeesLeaders es leaders =
       (t : T) (c : ID) → MatchOption (find_leader leaders t c) (SeesNoLeader es t c) (SeesLeader es t c)

@@ -1,12 +1,13 @@
 //! Which rule an event breaks.
-ghost use Rattle.std.specs.Prelude.{◌≡◌};
+ghost use Rattle.std.specs.Prelude.{◌≡◌, ◌⊎◌, ◌<◌, ◌≤◌, ◌++◌, ℕ, IsNone, None, length, take};
+ghost use Rattle.raft_safety.specs.Log.{last_term};
+ghost use Rattle.raft_safety.specs.Inner.Kept.{leader_in, server_in};
+ghost use Rattle.raft_safety.specs.Inner.Logs.{AreDistinct, AreLogs, IsExact, log_at};
 ghost use Rattle.raft_safety.specs.Inner.CheckerState.{ack_rule, append_rule, commit_rule, config_rule, grant_rule, knows, restart_rule, same_entry_by, up_to_date_by, write_rule, apply_rule};
 
 use super::configs::Configs;
 use super::leader::Leader;
-use super::logs::{
-    after, begins_with, common_len, effective_config, first, holds_no_config, last_term,
-};
+use super::logs::Logs;
 use super::server::Server;
 use crate::entry::Entry;
 use crate::rule::Rule;
@@ -14,13 +15,15 @@ use crate::term::Term;
 
 /// Returns the rule that a vote for a candidate breaks, if there is one.
 pub fn grant_rule<T: Term, N: Copy + Eq, D: Copy + Eq>(
-    server: &Server<T, N, D>,
-    leader: &Leader<T, N, D>,
+    logs: &Logs<T, D>,
+    server: &Server<N>,
+    leader: &Leader<T, N>,
     id: N,
     rank: u128,
     candidate: N,
 ) -> Option<Rule>
-    ensures { result ≡ grant_rule T.rank N.eq server.now leader.now id rank candidate }
+    ensures { result ≡ grant_rule T.rank N.eq (server_in logs.now server.now)
+        (leader_in logs.now leader.now) id rank candidate }
 {
     if rank < server.term || rank <= server.voted {
         return Some(Rule::PassedTerm);
@@ -28,32 +31,45 @@ pub fn grant_rule<T: Term, N: Copy + Eq, D: Copy + Eq>(
     if candidate == id {
         return Some(Rule::OwnCandidate);
     }
-    if !is_up_to_date(first(&leader.log, leader.start), &server.log) {
+    if !is_up_to_date(logs, logs.first(leader.log, leader.start), server.log) {
         return Some(Rule::CandidateBehind);
     }
     None
 }
 
 /// Whether a log is at least as up to date as another.
-fn is_up_to_date<T: Term, D: Copy + Eq>(log: &[Entry<T, D>], other: &[Entry<T, D>]) -> bool
-    ensures { result ≡ up_to_date_by T.rank log.now other.now }
+fn is_up_to_date<T: Term, D: Copy + Eq>(logs: &Logs<T, D>, log: usize, other: usize) -> bool
+    ensures { result ≡ up_to_date_by T.rank (log_at logs.now log) (log_at logs.now other) }
 {
-    let last = last_term(log);
-    let other_last = last_term(other);
-    other_last < last || other_last == last && other.len() <= log.len()
+    let last = last_term(logs, log);
+    let other_last = last_term(logs, other);
+    other_last < last || other_last == last && logs.len(other) <= logs.len(log)
+}
+
+/// Returns the rank of the term of the last entry, 0 for an empty log.
+fn last_term<T: Term, D: Copy + Eq>(logs: &Logs<T, D>, log: usize) -> u128
+    ensures { result ≡ last_term T.rank (log_at logs.now log) }
+{
+    match logs.last(log) {
+        Some(entry) => entry.term.rank(),
+        None => 0,
+    }
 }
 
 /// Returns the rule that a server breaks by keeping so many entries and appending these, if there
 /// is one.
 pub fn append_rule<T: Term, N: Copy + Eq, D: Copy + Eq>(
-    server: &Server<T, N, D>,
-    leader: &Leader<T, N, D>,
+    logs: &Logs<T, D>,
+    server: &Server<N>,
+    leader: &Leader<T, N>,
     rank: u128,
     keep: usize,
     entries: &[Entry<T, D>],
 ) -> Option<Rule>
-    ensures { result ≡ append_rule (same_entry_by T.eq D.eq) server.now leader.now rank keep
-        entries.now }
+    ensures rule { IsExact (same_entry_by T.eq D.eq) → AreDistinct logs.now → result
+        ≡ append_rule (same_entry_by T.eq D.eq) (server_in logs.now server.now)
+        (leader_in logs.now leader.now) rank keep entries.now }
+    ensures fits { IsNone result → keep ≤ length (log_at logs.now server.now.log) }
 {
     if !leader.elected {
         return Some(Rule::NotElected);
@@ -61,31 +77,57 @@ pub fn append_rule<T: Term, N: Copy + Eq, D: Copy + Eq>(
     if rank < server.term {
         return Some(Rule::PassedTerm);
     }
-    if server.log.len() < keep {
+    if logs.len(server.log) < keep {
         return Some(Rule::MissingEntries);
     }
-    let matching = common_len(&server.log, &leader.log);
-    let old = common_len(&server.log[keep..], entries);
+    let matching = logs.common_len(server.log, leader.log);
+    let old = logs.common_with(server.log, keep, entries);
     if old < matching.saturating_sub(keep) {
         return Some(Rule::DropsMatching);
     }
     if old == entries.len() {
         return None;
     }
-    if keep <= matching && common_len(&leader.log[keep..], entries) == entries.len() {
+    if keep <= matching && logs.common_with(leader.log, keep, entries) == entries.len() {
         return None;
     }
     Some(Rule::ForeignEntries)
 }
 
+/// Returns the log of a server that keeps so many entries and appends these, if this breaks no
+/// rule. It is a prefix of the server's or of the leader's log.
+pub fn next_log<T: Term, N: Copy + Eq, D: Copy + Eq>(
+    logs: &Logs<T, D>,
+    server: &Server<N>,
+    leader: &Leader<T, N>,
+    keep: usize,
+    entries: &[Entry<T, D>],
+) -> usize
+    ensures log { (rank : ℕ) → IsExact (same_entry_by T.eq D.eq) →
+        append_rule (same_entry_by T.eq D.eq) (server_in logs.now server.now)
+        (leader_in logs.now leader.now) rank keep entries.now ≡ None →
+        log_at logs.now result ≡ take keep (log_at logs.now server.now.log) ++ entries.now }
+    ensures earlier { (result ≤ server.now.log) ⊎ (result ≤ leader.now.log) }
+{
+    let old = logs.common_with(server.log, keep, entries);
+    if old == entries.len() {
+        return logs.first(server.log, keep.saturating_add(old));
+    }
+    let new = logs.common_with(leader.log, keep, entries);
+    logs.first(leader.log, keep.saturating_add(new))
+}
+
 /// Returns the rule that an acknowledgement breaks, if there is one.
 pub fn ack_rule<T: Term, N: Copy + Eq, D: Copy + Eq>(
-    server: &Server<T, N, D>,
-    leader: &Leader<T, N, D>,
+    logs: &Logs<T, D>,
+    server: &Server<N>,
+    leader: &Leader<T, N>,
     rank: u128,
     len: usize,
 ) -> Option<Rule>
-    ensures { result ≡ ack_rule (same_entry_by T.eq D.eq) server.now leader.now rank len }
+    ensures { IsExact (same_entry_by T.eq D.eq) → AreDistinct logs.now → result
+        ≡ ack_rule (same_entry_by T.eq D.eq) (server_in logs.now server.now)
+        (leader_in logs.now leader.now) rank len }
 {
     if !leader.elected {
         return Some(Rule::NotElected);
@@ -93,10 +135,13 @@ pub fn ack_rule<T: Term, N: Copy + Eq, D: Copy + Eq>(
     if server.term < rank {
         return Some(Rule::TermNotReached);
     }
-    if leader.log.len() < len {
+    if logs.len(leader.log) < len {
         return Some(Rule::NotWritten);
     }
-    if !server.has_kept(rank, &leader.log[..len]) {
+    if !logs.begins_with(server.log, logs.first(leader.log, len)) {
+        return Some(Rule::NotKept);
+    }
+    if server.kept_since(rank, len) < len {
         return Some(Rule::NotKept);
     }
     None
@@ -105,19 +150,22 @@ pub fn ack_rule<T: Term, N: Copy + Eq, D: Copy + Eq>(
 /// Returns the rule that a server breaks by applying entries, if there is one besides that they are
 /// committed.
 pub fn apply_rule<T: Term, N: Copy + Eq, D: Copy + Eq>(
-    server: &Server<T, N, D>,
-    leader: &Leader<T, N, D>,
+    logs: &Logs<T, D>,
+    server: &Server<N>,
+    leader: &Leader<T, N>,
     len: usize,
 ) -> Option<Rule>
-    ensures { result ≡ apply_rule (same_entry_by T.eq D.eq) server.now leader.now len }
+    ensures { IsExact (same_entry_by T.eq D.eq) → AreDistinct logs.now → result
+        ≡ apply_rule (same_entry_by T.eq D.eq) (server_in logs.now server.now)
+        (leader_in logs.now leader.now) len }
 {
     if !leader.elected {
         return Some(Rule::NotElected);
     }
-    if leader.log.len() < len {
+    if logs.len(leader.log) < len {
         return Some(Rule::NotWritten);
     }
-    if !begins_with(&server.log, &leader.log[..len]) {
+    if !logs.begins_with(server.log, logs.first(leader.log, len)) {
         return Some(Rule::NotInLog);
     }
     None
@@ -125,15 +173,16 @@ pub fn apply_rule<T: Term, N: Copy + Eq, D: Copy + Eq>(
 
 /// Returns the rule that a restart with so many entries breaks, if there is one.
 pub fn restart_rule<T: Term, N: Copy + Eq, D: Copy + Eq>(
-    server: &Server<T, N, D>,
+    logs: &Logs<T, D>,
+    server: &Server<N>,
     len: usize,
 ) -> Option<Rule>
-    ensures { result ≡ restart_rule server.now len }
+    ensures { result ≡ restart_rule (server_in logs.now server.now) len }
 {
     if len < server.durable {
         return Some(Rule::LostAcked);
     }
-    if server.log.len() < len {
+    if logs.len(server.log) < len {
         return Some(Rule::MissingEntries);
     }
     None
@@ -142,12 +191,14 @@ pub fn restart_rule<T: Term, N: Copy + Eq, D: Copy + Eq>(
 /// Returns the rule that a leader breaks by writing an entry, if there is one.
 pub fn write_rule<T: Term, N: Copy + Eq, D: Copy + Eq, C: Configs<N, D>>(
     configs: &C,
-    leader: &Leader<T, N, D>,
+    logs: &Logs<T, D>,
+    leader: &Leader<T, N>,
     term: T,
     entry: Entry<T, D>,
 ) -> Option<Rule>
-    ensures { result ≡ write_rule T.eq (C.holds_config configs.now) (C.intersects configs.now)
-        leader.now term entry }
+    ensures { AreLogs (C.holds_config configs.now) logs.now → leader.now.log < length logs.now.logs
+        → result ≡ write_rule T.eq (C.holds_config configs.now) (C.intersects configs.now)
+        (leader_in logs.now leader.now) term entry }
 {
     if !leader.elected {
         return Some(Rule::NotElected);
@@ -155,23 +206,25 @@ pub fn write_rule<T: Term, N: Copy + Eq, D: Copy + Eq, C: Configs<N, D>>(
     if entry.term != term {
         return Some(Rule::OtherTerm);
     }
-    config_rule(configs, leader, entry.content)
+    config_rule(configs, logs, leader, entry.content)
 }
 
 /// Returns the rule that a leader breaks by proposing the config of a content, if it holds one and
 /// there is such a rule.
 fn config_rule<T: Term, N: Copy + Eq, D: Copy + Eq, C: Configs<N, D>>(
     configs: &C,
-    leader: &Leader<T, N, D>,
+    logs: &Logs<T, D>,
+    leader: &Leader<T, N>,
     content: D,
 ) -> Option<Rule>
-    ensures { result ≡ config_rule (C.holds_config configs.now) (C.intersects configs.now)
-        leader.now content }
+    ensures { AreLogs (C.holds_config configs.now) logs.now → leader.now.log < length logs.now.logs
+        → result ≡ config_rule (C.holds_config configs.now) (C.intersects configs.now)
+        (leader_in logs.now leader.now) content }
 {
     if !configs.holds_config(content) {
         return None;
     }
-    let config = effective_config(configs, &leader.log);
+    let config = logs.config_content(leader.log);
     if !configs.do_intersect(config, Some(content)) {
         return Some(Rule::ApartConfigs);
     }
@@ -179,18 +232,19 @@ fn config_rule<T: Term, N: Copy + Eq, D: Copy + Eq, C: Configs<N, D>>(
         return Some(Rule::ApartQuorums);
     }
     match leader.committed {
-        Some(len) if holds_no_config(configs, after(&leader.log, len)) => None,
+        Some(len) if logs.len(logs.config(leader.log)) <= len => None,
         _ => Some(Rule::EarlyConfig),
     }
 }
 
 /// Returns the rule that a commit breaks, if there is one besides the acknowledgements of a quorum.
 pub fn commit_rule<T: Term, N: Copy + Eq, D: Copy + Eq>(
-    leader: &Leader<T, N, D>,
+    logs: &Logs<T, D>,
+    leader: &Leader<T, N>,
     len: usize,
     counted_at: usize,
 ) -> Option<Rule>
-    ensures { result ≡ commit_rule leader.now len counted_at }
+    ensures { result ≡ commit_rule (leader_in logs.now leader.now) len counted_at }
 {
     if !leader.elected {
         return Some(Rule::NotElected);
@@ -201,7 +255,7 @@ pub fn commit_rule<T: Term, N: Copy + Eq, D: Copy + Eq>(
     if counted_at < len {
         return Some(Rule::CountedEarly);
     }
-    if leader.log.len() < counted_at {
+    if logs.len(leader.log) < counted_at {
         return Some(Rule::NotWritten);
     }
     None
@@ -209,14 +263,19 @@ pub fn commit_rule<T: Term, N: Copy + Eq, D: Copy + Eq>(
 
 /// Whether a leader of a term of at most this rank has committed these entries.
 pub fn knows<T: Term, N: Copy + Eq, D: Copy + Eq>(
-    leader: &Leader<T, N, D>,
+    logs: &Logs<T, D>,
+    leader: &Leader<T, N>,
     rank: u128,
-    prefix: &[Entry<T, D>],
+    prefix: usize,
 ) -> bool
-    ensures { result ≡ knows T.rank (same_entry_by T.eq D.eq) rank prefix.now leader.now }
+    ensures { IsExact (same_entry_by T.eq D.eq) → AreDistinct logs.now → result
+        ≡ knows T.rank (same_entry_by T.eq D.eq) rank (log_at logs.now prefix)
+        (leader_in logs.now leader.now) }
 {
     match leader.committed {
-        Some(len) => leader.term.rank() <= rank && begins_with(first(&leader.log, len), prefix),
+        Some(len) => {
+            leader.term.rank() <= rank && logs.begins_with(logs.first(leader.log, len), prefix)
+        }
         None => false,
     }
 }

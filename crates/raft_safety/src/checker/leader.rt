@@ -1,15 +1,11 @@
 //! What the checker keeps of a candidate or leader.
-ghost use Rattle.std.specs.Prelude.{◌≡◌, ◌++◌, ◌∷◌, ◌&&◌, ◌||◌, ℕ, [], IfOk, OnOk, OnErr, Some, None, length, max, nat_le, take};
+ghost use Rattle.std.specs.Prelude.{◌≡◌, ◌∷◌, ◌&&◌, ◌||◌, ℕ, [], IfOk, OnOk, OnErr, Some, None, length, max, nat_le};
 ghost use Rattle.std.specs.List.{IsDistinct, position};
 ghost use Rattle.std.specs.Option.{unwrap_or};
 ghost use Rattle.std.specs.Set.{is_member};
-ghost use Rattle.raft_safety.specs.Configs.{effective_config};
-ghost use Rattle.raft_safety.specs.Inner.CheckerState.{config_in, has_acked_to};
+ghost use Rattle.raft_safety.specs.Inner.CheckerState.{has_acked_to};
 
 use super::configs::Configs;
-use super::logs::{effective_config, first};
-use crate::entry::Entry;
-use crate::term::Term;
 use std::alloc::{AllocError, Global};
 
 /// How many first entries a server has acknowledged to a leader.
@@ -23,15 +19,15 @@ pub struct Acked<N> {
 
 /// What the checker keeps of a candidate or leader of a term.
 #[derive(Drop)]
-pub struct Leader<T, N, D> {
+pub struct Leader<T, N> {
     /// The term.
     pub term: T,
     /// The candidate or leader.
     pub id: N,
     /// The length of the log with which the candidate asked for votes.
     pub start: usize,
-    /// The log of the leader.
-    pub log: Vec<Entry<T, D>>,
+    /// The log of the leader, as `Logs` counts logs.
+    pub log: usize,
     /// The servers that have voted for the candidate in time, each once.
     pub voters: Vec<N>,
     /// Whether the candidate is elected.
@@ -42,38 +38,40 @@ pub struct Leader<T, N, D> {
     pub committed: Option<usize>,
 }
 
-impl<T: Term, N: Copy + Eq, D: Copy + Eq> Leader<T, N, D> {
-    /// Returns what is kept of a candidate that has voted for itself.
+impl<T: Copy, N: Copy + Eq> Leader<T, N> {
+    /// Returns what is kept of a candidate that has voted for itself. It asks for votes with this
+    /// log, in which this config is in effect.
     ///
     /// # Errors
     ///
     /// Out of memory.
-    pub fn new<C: Configs<N, D>>(
+    pub fn new<D: Copy + Eq, C: Configs<N, D>>(
         alloc: Global,
         configs: &C,
+        config: Option<D>,
         term: T,
         id: N,
-        log: &[Entry<T, D>],
+        log: usize,
+        start: usize,
     ) -> Result<Self, AllocError>
         ensures term { IfOk result (λ l. l.term ≡ term) }
         ensures id { IfOk result (λ l. l.id ≡ id) }
-        ensures start { IfOk result (λ l. l.start ≡ length log.now) }
-        ensures log { IfOk result (λ l. l.log.items ≡ log.now) }
+        ensures start { IfOk result (λ l. l.start ≡ start) }
+        ensures log { IfOk result (λ l. l.log ≡ log) }
         ensures voters { IfOk result (λ l. l.voters.items ≡ id ∷ []) }
-        ensures elected { IfOk result (λ l. l.elected ≡ C.has_quorum configs.now
-            (effective_config (config_in (C.holds_config configs.now)) None log.now)
+        ensures elected { IfOk result (λ l. l.elected ≡ C.has_quorum configs.now config
             (is_member N.eq (id ∷ []))) }
         ensures acked { IfOk result (λ l. l.acked.items ≡ []) }
         ensures committed { IfOk result (λ l. l.committed ≡ None) }
     {
         let mut voters = Vec::new(alloc);
         voters.push(id)?;
-        let elected = configs.is_quorum(effective_config(configs, log), &voters);
+        let elected = configs.is_quorum(config, &voters);
         Ok(Leader {
             term,
             id,
-            start: log.len(),
-            log: Vec::from_slice(alloc, log)?,
+            start,
+            log,
             voters,
             elected,
             acked: Vec::new(alloc),
@@ -81,43 +79,41 @@ impl<T: Term, N: Copy + Eq, D: Copy + Eq> Leader<T, N, D> {
         })
     }
 
-    /// Counts the vote of a server.
+    /// Counts the vote of a server. This config is in effect in the log of the candidate.
     ///
     /// # Errors
     ///
     /// Out of memory. The leader is then as it was.
-    pub fn vote<C: Configs<N, D>>(&mut self, configs: &C, server: N) -> Result<(), AllocError>
+    pub fn vote<D: Copy + Eq, C: Configs<N, D>>(
+        &mut self,
+        configs: &C,
+        config: Option<D>,
+        server: N,
+    ) -> Result<(), AllocError>
         ensures voters { OnOk result ((v : N) → is_member N.eq self.new.voters.items v
             ≡ (is_member N.eq self.old.voters.items v || N.eq v server)) }
         ensures distinct { IsDistinct N.eq self.old.voters.items →
             IsDistinct N.eq self.new.voters.items }
         ensures elected { OnOk result (IsDistinct N.eq self.old.voters.items →
-            self.new.elected ≡ C.has_quorum configs.now
-            (effective_config (config_in (C.holds_config configs.now)) None
-            (take self.old.start self.old.log.items)) (is_member N.eq self.new.voters.items)) }
+            self.new.elected ≡ C.has_quorum configs.now config
+            (is_member N.eq self.new.voters.items)) }
         ensures err_voters { OnErr result (self.new.voters.items ≡ self.old.voters.items) }
         ensures err_elected { OnErr result (self.new.elected ≡ self.old.elected) }
         ensures same_term { self.new.term ≡ self.old.term }
         ensures same_id { self.new.id ≡ self.old.id }
         ensures same_start { self.new.start ≡ self.old.start }
-        ensures same_log { self.new.log.items ≡ self.old.log.items }
+        ensures same_log { self.new.log ≡ self.old.log }
         ensures same_acked { self.new.acked.items ≡ self.old.acked.items }
         ensures same_committed { self.new.committed ≡ self.old.committed }
     {
         add_once(&mut self.voters, server)?;
-        let config = effective_config(configs, first(&self.log, self.start));
         self.elected = configs.is_quorum(config, &self.voters);
         Ok(())
     }
 
-    /// Writes an entry.
-    ///
-    /// # Errors
-    ///
-    /// Out of memory. The leader is then as it was.
-    pub fn write(&mut self, entry: Entry<T, D>) -> Result<(), AllocError>
-        ensures log { OnOk result (self.new.log.items ≡ self.old.log.items ++ entry ∷ []) }
-        ensures err_log { OnErr result (self.new.log.items ≡ self.old.log.items) }
+    /// Writes an entry. This is the log of the leader then.
+    pub fn write(&mut self, log: usize)
+        ensures log { self.new.log ≡ log }
         ensures same_term { self.new.term ≡ self.old.term }
         ensures same_id { self.new.id ≡ self.old.id }
         ensures same_start { self.new.start ≡ self.old.start }
@@ -126,8 +122,7 @@ impl<T: Term, N: Copy + Eq, D: Copy + Eq> Leader<T, N, D> {
         ensures same_acked { self.new.acked.items ≡ self.old.acked.items }
         ensures same_committed { self.new.committed ≡ self.old.committed }
     {
-        self.log.push(entry)?;
-        Ok(())
+        self.log = log;
     }
 
     /// Counts what a server acknowledges.
@@ -142,7 +137,7 @@ impl<T: Term, N: Copy + Eq, D: Copy + Eq> Leader<T, N, D> {
         ensures same_term { self.new.term ≡ self.old.term }
         ensures same_id { self.new.id ≡ self.old.id }
         ensures same_start { self.new.start ≡ self.old.start }
-        ensures same_log { self.new.log.items ≡ self.old.log.items }
+        ensures same_log { self.new.log ≡ self.old.log }
         ensures same_voters { self.new.voters.items ≡ self.old.voters.items }
         ensures same_elected { self.new.elected ≡ self.old.elected }
         ensures same_committed { self.new.committed ≡ self.old.committed }
@@ -179,7 +174,7 @@ impl<T: Term, N: Copy + Eq, D: Copy + Eq> Leader<T, N, D> {
         ensures same_term { self.new.term ≡ self.old.term }
         ensures same_id { self.new.id ≡ self.old.id }
         ensures same_start { self.new.start ≡ self.old.start }
-        ensures same_log { self.new.log.items ≡ self.old.log.items }
+        ensures same_log { self.new.log ≡ self.old.log }
         ensures same_voters { self.new.voters.items ≡ self.old.voters.items }
         ensures same_elected { self.new.elected ≡ self.old.elected }
         ensures same_acked { self.new.acked.items ≡ self.old.acked.items }

@@ -1,10 +1,7 @@
 //! What the checker keeps of a server.
-ghost use Rattle.std.specs.Prelude.{◌≡◌, ◌+◌, ◌<◌, ◌≤◌, ◌++◌, ◌&&◌, ◌||◌, [], OnOk, OnErr, drop, length, map, max, min, nat_eq, nat_le, take, vec_capacity, vec_len};
-ghost use Rattle.raft_safety.specs.Inner.CheckerState.{at_most, common_len, kept_after, kept_from, same_entry_by};
+ghost use Rattle.std.specs.Prelude.{◌≡◌, ◌<◌, [], OnOk, OnErr, if◌then◌else◌, map, max, min, nat_le, vec_capacity, vec_len};
+ghost use Rattle.raft_safety.specs.Inner.CheckerState.{at_most, kept_after, kept_from};
 
-use super::logs::{begins_with, common_len};
-use crate::entry::Entry;
-use crate::term::Term;
 use std::alloc::{AllocError, Global};
 
 /// How many first entries a server has kept since it left a term.
@@ -18,7 +15,7 @@ pub struct Kept {
 
 /// What the checker keeps of a server.
 #[derive(Drop)]
-pub struct Server<T, N, D> {
+pub struct Server<N> {
     /// The server.
     pub id: N,
     /// The rank of the term that the server has reached.
@@ -26,21 +23,21 @@ pub struct Server<T, N, D> {
     /// The rank of the term in which the server has voted last, in time or late, 0 if it has not
     /// voted.
     pub voted: u128,
-    /// The log of the server.
-    pub log: Vec<Entry<T, D>>,
+    /// The log of the server, as `Logs` counts logs.
+    pub log: usize,
     /// How many first entries are durable.
     pub durable: usize,
     /// What the server has kept since it left its earlier terms.
     pub kept: Vec<Kept>,
 }
 
-impl<T: Term, N: Copy + Eq, D: Copy + Eq> Server<T, N, D> {
+impl<N: Copy + Eq> Server<N> {
     /// Returns what is kept of a server that has done nothing.
     pub fn new(alloc: Global, id: N) -> Self
         ensures id { result.id ≡ id }
         ensures term { result.term ≡ 0 }
         ensures voted { result.voted ≡ 0 }
-        ensures log { result.log.items ≡ [] }
+        ensures log { result.log ≡ 0 }
         ensures durable { result.durable ≡ 0 }
         ensures kept { result.kept.items ≡ [] }
     {
@@ -48,22 +45,22 @@ impl<T: Term, N: Copy + Eq, D: Copy + Eq> Server<T, N, D> {
             id,
             term: 0,
             voted: 0,
-            log: Vec::new(alloc),
+            log: 0,
             durable: 0,
             kept: Vec::new(alloc),
         }
     }
 
-    /// Whether the log has begun with these entries since the server's term was at most this rank.
-    pub fn has_kept(&self, rank: u128, prefix: &[Entry<T, D>]) -> bool
-        ensures { result ≡ (nat_eq (common_len (same_entry_by T.eq D.eq) prefix.now
-            self.now.log.items)
-            (length prefix.now)
-            && (nat_le self.now.term rank
-            || nat_le (length prefix.now) (kept_from 0 self.now.kept.items rank))) }
+    /// How many first entries the server has kept since its term was at most this rank, if it has
+    /// a log of this length now.
+    pub fn kept_since(&self, rank: u128, len: usize) -> usize
+        ensures { result ≡ (if nat_le self.now.term rank then len
+            else kept_from 0 self.now.kept.items rank) }
     {
-        begins_with(&self.log, prefix)
-            && (self.term <= rank || prefix.len() <= kept_since(&self.kept, rank))
+        if self.term <= rank {
+            return len;
+        }
+        kept_since(&self.kept, rank)
     }
 
     /// Reserves capacity for one term more.
@@ -76,25 +73,25 @@ impl<T: Term, N: Copy + Eq, D: Copy + Eq> Server<T, N, D> {
         ensures same_id { self.new.id ≡ self.old.id }
         ensures same_term { self.new.term ≡ self.old.term }
         ensures same_voted { self.new.voted ≡ self.old.voted }
-        ensures same_log { self.new.log.items ≡ self.old.log.items }
+        ensures same_log { self.new.log ≡ self.old.log }
         ensures same_durable { self.new.durable ≡ self.old.durable }
         ensures same_kept { self.new.kept.items ≡ self.old.kept.items }
     {
         self.kept.reserve(1)
     }
 
-    /// Votes in a term, and reaches it.
-    pub fn reach(&mut self, term: u128)
+    /// Votes in a term, and reaches it with a log of this length.
+    pub fn reach(&mut self, term: u128, len: usize)
         requires { vec_len self.old.kept < vec_capacity self.old.kept }
         ensures term { self.new.term ≡ max self.old.term term }
         ensures voted { self.new.voted ≡ term }
         ensures kept { self.new.kept.items
-            ≡ kept_after self.old.kept.items self.old.term (length self.old.log.items) term }
+            ≡ kept_after self.old.kept.items self.old.term len term }
         ensures same_id { self.new.id ≡ self.old.id }
-        ensures same_log { self.new.log.items ≡ self.old.log.items }
+        ensures same_log { self.new.log ≡ self.old.log }
         ensures same_durable { self.new.durable ≡ self.old.durable }
     {
-        leave(&mut self.kept, self.term, self.log.len(), term);
+        leave(&mut self.kept, self.term, len, term);
         self.term = self.term.max(term);
         self.voted = term;
     }
@@ -104,14 +101,15 @@ impl<T: Term, N: Copy + Eq, D: Copy + Eq> Server<T, N, D> {
         ensures voted { self.new.voted ≡ term }
         ensures same_id { self.new.id ≡ self.old.id }
         ensures same_term { self.new.term ≡ self.old.term }
-        ensures same_log { self.new.log.items ≡ self.old.log.items }
+        ensures same_log { self.new.log ≡ self.old.log }
         ensures same_durable { self.new.durable ≡ self.old.durable }
         ensures same_kept { self.new.kept.items ≡ self.old.kept.items }
     {
         self.voted = term;
     }
 
-    /// Keeps the first entries of the log, and appends entries to them, in a term.
+    /// Takes another log in place of one of this length, in a term. The logs have so many first
+    /// entries in common.
     ///
     /// # Errors
     ///
@@ -119,34 +117,26 @@ impl<T: Term, N: Copy + Eq, D: Copy + Eq> Server<T, N, D> {
     pub fn append(
         &mut self,
         term: u128,
-        keep: usize,
-        entries: &[Entry<T, D>],
+        len: usize,
+        log: usize,
+        same: usize,
     ) -> Result<(), AllocError>
-        requires { keep ≤ length self.old.log.items }
         ensures term { OnOk result (self.new.term ≡ max self.old.term term) }
-        ensures log { OnOk result (self.new.log.items ≡ take keep self.old.log.items ++
-            entries.now) }
-        ensures durable { OnOk result (self.new.durable ≡ min self.old.durable
-            (keep + common_len (same_entry_by T.eq D.eq)
-            (drop keep self.old.log.items) entries.now)) }
-        ensures kept { OnOk result (self.new.kept.items ≡ map
-            (at_most (keep + common_len (same_entry_by T.eq D.eq)
-            (drop keep self.old.log.items) entries.now))
-            (kept_after self.old.kept.items self.old.term (length self.old.log.items) term)) }
+        ensures log { OnOk result (self.new.log ≡ log) }
+        ensures durable { OnOk result (self.new.durable ≡ min self.old.durable same) }
+        ensures kept { OnOk result (self.new.kept.items ≡ map (at_most same)
+            (kept_after self.old.kept.items self.old.term len term)) }
         ensures same_id { self.new.id ≡ self.old.id }
         ensures same_voted { self.new.voted ≡ self.old.voted }
         ensures err_term { OnErr result (self.new.term ≡ self.old.term) }
-        ensures err_log { OnErr result (self.new.log.items ≡ self.old.log.items) }
+        ensures err_log { OnErr result (self.new.log ≡ self.old.log) }
         ensures err_durable { OnErr result (self.new.durable ≡ self.old.durable) }
         ensures err_kept { OnErr result (self.new.kept.items ≡ self.old.kept.items) }
     {
-        let same = keep + common_len(&self.log[keep..], entries);
         self.make_room()?;
-        self.log.reserve(entries.len())?;
-        leave(&mut self.kept, self.term, self.log.len(), term);
+        leave(&mut self.kept, self.term, len, term);
         self.term = self.term.max(term);
-        self.log.truncate(keep);
-        self.log.extend_from_slice(entries).unwrap();
+        self.log = log;
         self.keep_at_most(same);
         Ok(())
     }
@@ -157,22 +147,22 @@ impl<T: Term, N: Copy + Eq, D: Copy + Eq> Server<T, N, D> {
         ensures same_id { self.new.id ≡ self.old.id }
         ensures same_term { self.new.term ≡ self.old.term }
         ensures same_voted { self.new.voted ≡ self.old.voted }
-        ensures same_log { self.new.log.items ≡ self.old.log.items }
+        ensures same_log { self.new.log ≡ self.old.log }
         ensures same_kept { self.new.kept.items ≡ self.old.kept.items }
     {
         self.durable = len.max(self.durable);
     }
 
-    /// Restarts with first entries of the log.
-    pub fn restart(&mut self, len: usize)
-        ensures log { self.new.log.items ≡ take len self.old.log.items }
+    /// Restarts with the first entries of its log, which are this log.
+    pub fn restart(&mut self, log: usize, len: usize)
+        ensures log { self.new.log ≡ log }
         ensures durable { self.new.durable ≡ min self.old.durable len }
         ensures kept { self.new.kept.items ≡ map (at_most len) self.old.kept.items }
         ensures same_id { self.new.id ≡ self.old.id }
         ensures same_term { self.new.term ≡ self.old.term }
         ensures same_voted { self.new.voted ≡ self.old.voted }
     {
-        self.log.truncate(len);
+        self.log = log;
         self.keep_at_most(len);
     }
 
@@ -183,7 +173,7 @@ impl<T: Term, N: Copy + Eq, D: Copy + Eq> Server<T, N, D> {
         ensures same_id { self.new.id ≡ self.old.id }
         ensures same_term { self.new.term ≡ self.old.term }
         ensures same_voted { self.new.voted ≡ self.old.voted }
-        ensures same_log { self.new.log.items ≡ self.old.log.items }
+        ensures same_log { self.new.log ≡ self.old.log }
     {
         self.durable = self.durable.min(len);
         limit(&mut self.kept, len);

@@ -23,7 +23,7 @@ returns-in-Err-record-clause-refused g c =
       c.index-events-i.result,
       within,
       c.index-events-i.is,
-      (c.loop-i.invariant.seen exact).allowed,
+      (c.loop-i.invariant.seen exact).seen.allowed,
       ((rw c.loop-i.invariant.same at c.in-Err-record.ensures.answer) exact
           (trace_of (take c.loop-i.i c.args.events.now)) (c.loop-i.invariant.seen exact)).0,
     )
@@ -32,11 +32,11 @@ pub returns-clause-allowed : goal.returns-clause-allowed
 returns-clause-allowed g c =
     let whole : take c.loop-i.i c.args.events.now ≡ c.args.events.now =
     take_all c.loop-i.i c.args.events.now (omega arith) in
-    λ exact. rw whole at (c.loop-i.invariant.seen exact).allowed
+    λ exact. rw whole at (c.loop-i.invariant.seen exact).seen.allowed
 
 pub returns-clause-safe : goal.returns-clause-safe
 returns-clause-safe g c =
     let whole : take c.loop-i.i c.args.events.now ≡ c.args.events.now =
     take_all c.loop-i.i c.args.events.now (omega arith) in
     λ exact ranks. trace_is_safe _ exact (trace_of c.args.events.now) ranks
-    (rw whole at (c.loop-i.invariant.seen exact).allowed)
+    (rw whole at (c.loop-i.invariant.seen exact).seen.allowed)

@@ -6,7 +6,7 @@ use Rattle.raft_safety.proofs.checker.server_at.Goals as goal
 
 pub returns-clause-at : goal.returns-clause-at
 returns-clause-at g c =
-    let p = λ (s : Server g.row.T.Denot g.row.N.Denot g.row.D.Denot). g.N.PartialEq.eq s.id c.args.id in
+    let p = λ (s : Server g.row.N.Denot). g.N.PartialEq.eq s.id c.args.id in
     let absent : position p c.args.servers.now.items ≡ None =
     none_to_end p c.args.servers.now.items c.loop-i.i (omega arith) c.loop-i.invariant in
     let passes : p c.new.result ≡ true = rw c.new.ensures.id (g.met.N.Eq.laws.refl c.args.id) in
@@ -30,14 +30,14 @@ returns-clause-at g c =
 
 pub loop-i-preserved : goal.loop-i-preserved
 loop-i-preserved g c =
-    search_more (λ (s : Server g.row.T.Denot g.row.N.Denot g.row.D.Denot). g.N.PartialEq.eq s.id c.args.id)
+    search_more (λ (s : Server g.row.N.Denot). g.N.PartialEq.eq s.id c.args.id)
     c.args.servers.now.items c.loop-i.i c.server-item.result (omega arith)
     (rw c.deref-server-items.ensures.value at c.server-item.is) (sym c.eq.ensures ∙ c.if-eq.false)
     c.loop-i.invariant
 
 pub returns-then-eq-clause-at : goal.returns-then-eq-clause-at
 returns-then-eq-clause-at g c = (
-  search_ends (λ (s : Server g.row.T.Denot g.row.N.Denot g.row.D.Denot). g.N.PartialEq.eq s.id c.args.id)
+  search_ends (λ (s : Server g.row.N.Denot). g.N.PartialEq.eq s.id c.args.id)
       c.args.servers.now.items c.loop-i.i c.server-item.result (omega arith)
       (rw c.deref-server-items.ensures.value at c.server-item.is) (sym c.eq.ensures ∙ c.if-eq.true)
       c.loop-i.invariant,

@@ -1,6 +1,7 @@
-use Rattle.std.proofs.Common.{◌≡◌, ◌<◌, ◌∙◌, [], ◌∷◌, length, refl, ap, inl, inr, arith}
+use Rattle.std.proofs.Common.{◌≡◌, ◌<◌, ◌∙◌, List, ℕ, [], ◌∷◌, length, refl, subst, sym, ap, inl, inr, arith}
 use Rattle.std.proofs.lemmas.List.{length-replicate, with_items_is}
 use Rattle.raft_safety.specs.Checker.{event_of}
+use Rattle.raft_safety.specs.Merge.{Interleaves}
 use Rattle.raft_safety.proofs.lemmas.MergeLemmas.{all_placed, left, placed_less}
 use Rattle.raft_safety.proofs.lemmas.TraceLemmas.{trace_is_safe}
 use Rattle.raft_safety.proofs.merge.check_each.Goals as goal
@@ -38,7 +39,8 @@ loop-checker-preserved g c =
           c.in-Ok-true.field-0-test in (
             event_of next.0.event ∷ before.0,
             next.1,
-            rw items (c.loop-checker.placed.items, next.0, refl, before.2),
+            subst (λ (ns : List ℕ). Interleaves c.args.lists.now ns (event_of next.0.event ∷ before.0)) (sym items)
+                (c.loop-checker.placed.items, next.0, refl, before.2),
           );
     }
 
@@ -49,8 +51,8 @@ returns-in-Ok-false-clause-safe g c = λ exact.
     record {
       trace = before.0;
       interleaves = all_placed c.args.lists.now c.loop-checker.placed.items before.0 before.2 ended;
-      allowed = before.1.allowed;
-      safe = λ ranks. trace_is_safe _ exact before.0 ranks before.1.allowed;
+      allowed = before.1.seen.allowed;
+      safe = λ ranks. trace_is_safe _ exact before.0 ranks before.1.seen.allowed;
     }
 
 pub returns-in-Err-record_next-clause-refused : goal.returns-in-Err-record_next-clause-refused
@@ -67,7 +69,7 @@ returns-in-Err-record_next-clause-refused g c = λ exact.
             inr (record {
               trace = before.0;
               interleaves = before.2;
-              allowed = before.1.allowed;
+              allowed = before.1.seen.allowed;
               count = memory.1;
               event = memory.2;
               is_next = memory.3;
@@ -77,7 +79,7 @@ returns-in-Err-record_next-clause-refused g c = λ exact.
           inr (inr (record {
             trace = before.0;
             interleaves = before.2;
-            allowed = before.1.allowed;
+            allowed = before.1.seen.allowed;
             refused = each;
           }))
     ])

@@ -1,6 +1,6 @@
 use Rattle.std.proofs.Common.{◌≡◌, List, length}
 use Rattle.raft_safety.specs.Trace.{AreExact, TraceEvent}
-use Rattle.raft_safety.specs.Checker.{HasSeen, tests_of}
+use Rattle.raft_safety.specs.Checker.{Keeps, kept_by, tests_of}
 use Rattle.raft_safety.specs.Merge.{Interleaves}
 use Rattle.raft_safety.proofs.lemmas.MergeLemmas.{left}
 use Rattle.raft_safety.proofs.merge.check_each.Given as goal
@@ -15,7 +15,7 @@ invariant-loop-checker g l =
       counts : length l.placed.items ≡ length l.lists;
       seen : AreExact k
           → (es : List (TraceEvent g.row.T.Denot g.row.N.Denot g.row.D.Denot))
-          × HasSeen k es l.checker.servers.items l.checker.leaders.items
+          × Keeps k es (kept_by l.checker)
           × Interleaves l.lists l.placed.items es;
     }
 

@@ -10,6 +10,8 @@ use Rattle.std.proofs.Common.{
   get_or,
   set,
   slice_get,
+  true,
+  false,
   refl,
   sym,
   ap,
@@ -17,6 +19,7 @@ use Rattle.std.proofs.Common.{
   inr,
   arith,
 }
+use Rattle.std.proofs.lemmas.Bool.{both_ways}
 use Rattle.std.proofs.lemmas.Option.{slice_get-get_or, slice_get_read}
 use Rattle.raft_safety.proofs.lemmas.MergeLemmas.{
   all_ended,
@@ -97,7 +100,7 @@ unfolding returns-in-Ok-clause-more
 returns-in-Ok-clause-records g c = λ exact es seen.
     let answer = (rw c.loop-i.invariant.configs at c.in-Ok.ensures.answer) exact es (c.loop-i.invariant.tried exact es seen).0 in (
       λ _. (returns-in-Ok-clause-more g c refl, answer.1),
-      λ no. absurd (cc),
+      λ no. absurd (both_ways true no refl),
     )
 
 pub returns-in-Err-OutOfMemory-clause-configs : goal.returns-in-Err-OutOfMemory-clause-configs
@@ -138,6 +141,6 @@ returns-in-None-clause-ended g c = λ _. (
 
 pub returns-in-None-clause-records : goal.returns-in-None-clause-records
 returns-in-None-clause-records g c = λ exact es seen. (
-  λ no. absurd (cc),
+  λ no. absurd (both_ways false refl no),
   λ _. (c.loop-i.invariant.tried exact es seen).0,
 )

@@ -1,6 +1,6 @@
 use Rattle.std.proofs.Common.{◌≡◌, List, None}
 use Rattle.raft_safety.specs.Trace.{AreExact, TraceEvent}
-use Rattle.raft_safety.specs.Checker.{HasSeen, tests_of}
+use Rattle.raft_safety.specs.Checker.{Keeps, kept_by, tests_of}
 use Rattle.raft_safety.specs.Merge.{AreEnded}
 use Rattle.raft_safety.proofs.lemmas.MergeLemmas.{AreTried}
 use Rattle.raft_safety.proofs.merge.record_next.Given as goal
@@ -14,7 +14,7 @@ invariant-loop-i g l =
       placed : l.placed ≡ l.fn.placed;
       ended : l.refused ≡ None → AreEnded l.lists l.fn.placed l.i;
       tried : AreExact k → (es : List (TraceEvent g.row.T.Denot g.row.N.Denot g.row.D.Denot))
-          → HasSeen k es l.fn.checker.servers.items l.fn.checker.leaders.items
-          → HasSeen k es l.checker.servers.items l.checker.leaders.items
+          → Keeps k es (kept_by l.fn.checker)
+          → Keeps k es (kept_by l.checker)
           × AreTried k l.lists l.fn.placed es l.i l.refused;
     }

@@ -1,75 +1,85 @@
-use Rattle.std.specs.Result.{IsOk}
-use Rattle.std.proofs.Common.{arith, sym, refl, ◌∙◌, ap, max, length}
+use Rattle.std.proofs.Common.{◌∙◌, ap, max, refl, sym}
 use Rattle.std.proofs.lemmas.Result.{err_from_is_err_and}
+use Rattle.raft_safety.specs.Checker.{kept_by}
 use Rattle.raft_safety.specs.Inner.CheckerState.{kept_after}
-use Rattle.raft_safety.proofs.lemmas.CheckerLemmas.{campaign_again, campaign_refused}
-use Rattle.raft_safety.proofs.lemmas.CheckerStepLemmas.{campaign_done, same_server}
+use Rattle.raft_safety.specs.Inner.Logs.{log_at}
+use Rattle.raft_safety.proofs.lemmas.CheckerStepLemmas.{
+  campaign_done,
+  campaign_passed,
+  campaign_twice,
+  keeps_at,
+  logs_by,
+  same_server,
+  with_servers,
+}
+use Rattle.raft_safety.proofs.lemmas.LoopLemmas.{within_len}
 use Rattle.raft_safety.proofs.checker.Checker.campaigned.Goals as goal
-
-pub returns-in-Some-clause-answer : goal.returns-in-Some-clause-answer
-returns-in-Some-clause-answer g c =
-    λ exact es seen. campaign_again _ exact es c.args.term c.args.server c.args.self.now.servers.items c.args.self.now.leaders.items
-    c.in-Some.field-0
-    (rw c.deref.ensures.value at (sym c.in-Some.ensures.place)) seen
 
 pub returns-in_err-i-clause-answer : goal.returns-in_err-i-clause-answer
 returns-in_err-i-clause-answer g c =
     let p = err_from_is_err_and c.from_residual.result c.from_residual.ensures.1 in
-    rw (p.1, p.2) (λ exact es seen. (tt, rw c.in_err-i.ensures.err seen))
+    rw (p.1, p.2) (λ exact es keeps. (tt, rw c.in_err-i.ensures.err keeps))
 
-pub returns-then-rank-index-clause-answer : goal.returns-then-rank-index-clause-answer
-returns-then-rank-index-clause-answer g c =
-    λ exact es seen. campaign_refused _ exact es c.args.term c.args.server c.args.self.now.servers.items c.server_at.new.servers.items
-    c.args.self.now.leaders.items c.in_ok-i.i
-    c.index.result.now c.in_ok-i.ensures.at c.index.ensures (rw c.deref.ensures.value at (sym c.in-None.ensures.place)) seen
+pub returns-in-Some-clause-answer : goal.returns-in-Some-clause-answer
+returns-in-Some-clause-answer g c =
+    λ exact es keeps. campaign_twice _ exact es c.args.term c.args.server
+    (with_servers (kept_by c.args.self.now) c.server_at.new.servers.items) c.in-Some.field-0
+    (sym c.in-Some.ensures.place)
+    (keeps_at _ exact es c.args.server (kept_by c.args.self.now) c.server_at.new.servers.items c.in_ok-i.i c.in_ok-i.ensures.at keeps)
+
+pub returns-in-None-clause-answer : goal.returns-in-None-clause-answer
+returns-in-None-clause-answer g c =
+    λ exact es keeps. campaign_passed _ exact es c.args.term c.args.server
+    (with_servers (kept_by c.args.self.now) c.server_at.new.servers.items) c.in_ok-i.i
+    c.index.result.now c.in_ok-i.ensures.at.0 c.index.ensures (sym c.in-None.ensures.place)
+    (keeps_at _ exact es c.args.server (kept_by c.args.self.now) c.server_at.new.servers.items c.in_ok-i.i c.in_ok-i.ensures.at keeps)
     (rw c.rank-rank.ensures at c.if-rank-index.true)
 
 pub returns-in_err-reserve-clause-answer : goal.returns-in_err-reserve-clause-answer
 returns-in_err-reserve-clause-answer g c =
     let p = err_from_is_err_and c.from_residual-in_err-reserve.result c.from_residual-in_err-reserve.ensures.1 in
-    rw (p.1, p.2) (λ exact es seen. (
+    rw (p.1, p.2) (λ exact es keeps. (
       tt,
-      rw c.in_err-reserve.ensures.items (same_server _ exact es c.args.server c.args.self.now.servers.items c.server_at.new.servers.items
-          c.args.self.now.leaders.items c.in_ok-i.i
-          c.index_mut-voter.result.now c.index_mut-voter.result.now c.in_ok-i.ensures.at c.index_mut-voter.ensures.value seen
+      rw c.in_err-reserve.ensures.items (same_server _ exact es (with_servers (kept_by c.args.self.now)
+          c.server_at.new.servers.items) c.args.server c.in_ok-i.i
+          c.index_mut-voter.result.now c.index_mut-voter.result.now c.in_ok-i.ensures.at.0 c.index_mut-voter.ensures.value
+          (keeps_at _ exact es c.args.server (kept_by c.args.self.now) c.server_at.new.servers.items c.in_ok-i.i c.in_ok-i.ensures.at keeps)
           refl refl refl refl refl refl),
     ))
 
 pub returns-in_err-make_room-clause-answer : goal.returns-in_err-make_room-clause-answer
 returns-in_err-make_room-clause-answer g c =
     let p = err_from_is_err_and c.from_residual-in_err-make_room.result c.from_residual-in_err-make_room.ensures.1 in
-    rw (p.1, p.2) (λ exact es seen. (
+    rw (p.1, p.2) (λ exact es keeps. (
       tt,
-      rw c.in_ok-reserve.ensures.items (same_server _ exact es c.args.server c.args.self.now.servers.items c.server_at.new.servers.items
-          c.args.self.now.leaders.items c.in_ok-i.i
-          c.index_mut-voter.result.now c.make_room.new.self c.in_ok-i.ensures.at c.index_mut-voter.ensures.value seen
+      rw c.in_ok-reserve.ensures.items (same_server _ exact es (with_servers (kept_by c.args.self.now)
+          c.server_at.new.servers.items) c.args.server c.in_ok-i.i
+          c.index_mut-voter.result.now c.make_room.new.self c.in_ok-i.ensures.at.0 c.index_mut-voter.ensures.value
+          (keeps_at _ exact es c.args.server (kept_by c.args.self.now) c.server_at.new.servers.items c.in_ok-i.i c.in_ok-i.ensures.at keeps)
           c.in_err-make_room.ensures.same_id c.in_err-make_room.ensures.same_term c.in_err-make_room.ensures.same_voted
-          c.in_err-make_room.ensures.same_log
-          c.in_err-make_room.ensures.same_durable c.in_err-make_room.ensures.same_kept),
+          c.in_err-make_room.ensures.same_log c.in_err-make_room.ensures.same_durable c.in_err-make_room.ensures.same_kept),
     ))
 
 pub returns-in_err-leader-clause-answer : goal.returns-in_err-leader-clause-answer
 returns-in_err-leader-clause-answer g c =
     let p = err_from_is_err_and c.from_residual-in_err-leader.result c.from_residual-in_err-leader.ensures.1 in
-    rw (p.1, p.2) (λ exact es seen. (
+    rw (p.1, p.2) (λ exact es keeps. (
       tt,
-      rw c.in_ok-reserve.ensures.items (same_server _ exact es c.args.server c.args.self.now.servers.items c.server_at.new.servers.items
-          c.args.self.now.leaders.items c.in_ok-i.i
-          c.index_mut-voter.result.now c.make_room.new.self c.in_ok-i.ensures.at c.index_mut-voter.ensures.value seen
+      rw c.in_ok-reserve.ensures.items (same_server _ exact es (with_servers (kept_by c.args.self.now)
+          c.server_at.new.servers.items) c.args.server c.in_ok-i.i
+          c.index_mut-voter.result.now c.make_room.new.self c.in_ok-i.ensures.at.0 c.index_mut-voter.ensures.value
+          (keeps_at _ exact es c.args.server (kept_by c.args.self.now) c.server_at.new.servers.items c.in_ok-i.i c.in_ok-i.ensures.at keeps)
           c.in_ok-make_room.ensures.same_id c.in_ok-make_room.ensures.same_term c.in_ok-make_room.ensures.same_voted
-          c.in_ok-make_room.ensures.same_log
-          c.in_ok-make_room.ensures.same_durable c.in_ok-make_room.ensures.same_kept),
+          c.in_ok-make_room.ensures.same_log c.in_ok-make_room.ensures.same_durable c.in_ok-make_room.ensures.same_kept),
     ))
 
 pub returns-clause-answer : goal.returns-clause-answer
 returns-clause-answer g c =
-    let ok : IsOk c.insert.result =
-    c.insert.ensures.succeeds (omega (arith, c.in_ok-reserve.ensures.ok)) in
-    λ exact es seen. rw (c.insert.ensures.items, c.in_ok-reserve.ensures.items, ok)
-    (campaign_done _ exact es c.args.term c.args.server
-    c.args.self.now.servers.items c.server_at.new.servers.items c.args.self.now.leaders.items c.in_ok-i.i
-    c.index.result.now c.index_mut-voter.result.now c.reach.new.self c.in_ok-leader.leader
-    c.in_ok-i.ensures.at c.index.ensures c.index_mut-voter.ensures.value (rw c.deref.ensures.value at (sym c.in-None.ensures.place)) seen
+    λ exact es keeps. rw (c.push_front_reserved.ensures.items, c.in_ok-reserve.ensures.items)
+    (campaign_done _ exact es c.args.term c.args.server (with_servers (kept_by c.args.self.now) c.server_at.new.servers.items) c.in_ok-i.i
+    c.index.result.now c.index_mut-voter.result.now c.reach.new.self c.in_ok-leader.leader c.config_content-config.result
+    c.in_ok-i.ensures.at.0 c.index.ensures c.index_mut-voter.ensures.value
+    (keeps_at _ exact es c.args.server (kept_by c.args.self.now) c.server_at.new.servers.items c.in_ok-i.i c.in_ok-i.ensures.at keeps)
     (rw c.rank-rank.ensures at c.if-rank-index.false)
     (c.reach.ensures.same_id ∙ c.in_ok-make_room.ensures.same_id)
     (rw c.rank-rank.ensures at c.reach.ensures.term ∙ ap (λ x. max x (g.T.Term.rank c.args.term)) c.in_ok-make_room.ensures.same_term)
@@ -77,14 +87,23 @@ returns-clause-answer g c =
     (c.reach.ensures.same_log ∙ c.in_ok-make_room.ensures.same_log) (c.reach.ensures.same_durable ∙ c.in_ok-make_room.ensures.same_durable)
     (rw c.rank-rank.ensures at c.reach.ensures.kept
     ∙ (λ q. kept_after (c.in_ok-make_room.ensures.same_kept q) (c.in_ok-make_room.ensures.same_term q)
-    (length (c.in_ok-make_room.ensures.same_log q)) (g.T.Term.rank c.args.term)))
-    (rw (c.deref-2.ensures.value, c.in_ok-make_room.ensures.same_log) at c.in_ok-leader.ensures.elected) c.in_ok-leader.ensures.acked
+    (c.len-len.ensures.len q) (g.T.Term.rank c.args.term)))
+    c.in_ok-leader.ensures.elected
+    (c.config_content-config.ensures (g.C.Configs.holds_config c.args.self.now.configs)
+    (logs_by (g.C.Configs.holds_config c.args.self.now.configs) c.args.self.now.logs keeps.are_logs)
+    ((keeps_at _ exact es c.args.server (kept_by c.args.self.now) c.server_at.new.servers.items c.in_ok-i.i c.in_ok-i.ensures.at
+    keeps).have_logs.of_servers c.in_ok-i.i c.index_mut-voter.result.now c.in_ok-i.ensures.within c.index_mut-voter.ensures.value))
+    c.in_ok-leader.ensures.acked
     (record {
       term = c.in_ok-leader.ensures.term;
       id = c.in_ok-leader.ensures.id;
-      start = rw (c.deref-2.ensures.value, c.in_ok-make_room.ensures.same_log) at c.in_ok-leader.ensures.start;
-      log = rw (c.deref-2.ensures.value, c.in_ok-make_room.ensures.same_log) at c.in_ok-leader.ensures.log;
+      start = c.in_ok-leader.ensures.start ∙ c.len-len.ensures.len;
+      log = ap (log_at c.args.self.now.logs) (c.in_ok-leader.ensures.log ∙ c.in_ok-make_room.ensures.same_log);
       voters = c.in_ok-leader.ensures.voters;
       elected = refl;
       committed = c.in_ok-leader.ensures.committed;
-    }))
+    })
+    (c.in_ok-leader.ensures.log ∙ c.in_ok-make_room.ensures.same_log))
+
+pub index-requires : goal.index-requires
+index-requires g c = within_len _ _ _ c.server_at.new.servers.ok.0 c.in_ok-i.ensures.within

@@ -1,24 +1,28 @@
-use Rattle.std.proofs.Common.{sym}
+use Rattle.std.proofs.Common.{◌∙◌, ap, sym}
 use Rattle.std.proofs.lemmas.Result.{err_from_is_err_and}
-use Rattle.raft_safety.proofs.lemmas.CheckerLemmas.{restart_refused}
-use Rattle.raft_safety.proofs.lemmas.CheckerStepLemmas.{restart_done}
+use Rattle.raft_safety.specs.Checker.{kept_by}
+use Rattle.raft_safety.specs.Inner.Logs.{log_at}
+use Rattle.raft_safety.proofs.lemmas.CheckerStepLemmas.{keeps_at, restart_done, restart_refused, with_servers}
 use Rattle.raft_safety.proofs.checker.Checker.restarted.Goals as goal
 
 pub returns-in_err-i-clause-answer : goal.returns-in_err-i-clause-answer
 returns-in_err-i-clause-answer g c =
     let p = err_from_is_err_and c.from_residual.result c.from_residual.ensures.1 in
-    rw (p.1, p.2) (λ exact es seen. (tt, rw c.in_err-i.ensures.err seen))
+    rw (p.1, p.2) (λ exact es keeps. (tt, rw c.in_err-i.ensures.err keeps))
 
 pub returns-in-Some-clause-answer : goal.returns-in-Some-clause-answer
 returns-in-Some-clause-answer g c =
-    λ exact es seen. restart_refused _ exact es c.args.server c.args.self.now.servers.items c.server_at.new.servers.items
-    c.args.self.now.leaders.items c.in_ok-i.i c.args.len
-    c.index.result.now c.in-Some.rule c.in_ok-i.ensures.at c.index.ensures seen (sym c.in-Some.ensures)
+    λ exact es keeps. restart_refused _ exact es c.args.server (with_servers (kept_by c.args.self.now) c.server_at.new.servers.items)
+    c.in_ok-i.i c.args.len c.index.result.now c.in-Some.rule c.in_ok-i.ensures.at.0 c.index.ensures
+    (keeps_at _ exact es c.args.server (kept_by c.args.self.now) c.server_at.new.servers.items c.in_ok-i.i c.in_ok-i.ensures.at keeps)
+    (sym c.in-Some.ensures)
 
 pub returns-clause-answer : goal.returns-clause-answer
 returns-clause-answer g c =
-    λ exact es seen. restart_done _ exact es c.args.server c.args.self.now.servers.items c.server_at.new.servers.items
-    c.args.self.now.leaders.items c.in_ok-i.i c.args.len
-    c.index.result.now c.index_mut.result.now c.restart.new.self c.in_ok-i.ensures.at c.index.ensures
-    c.index_mut.ensures.value seen (sym c.in-None.ensures) c.restart.ensures.same_id
-    c.restart.ensures.same_term c.restart.ensures.same_voted c.restart.ensures.log c.restart.ensures.durable c.restart.ensures.kept
+    λ exact es keeps. restart_done _ exact es c.args.server (with_servers (kept_by c.args.self.now) c.server_at.new.servers.items)
+    c.in_ok-i.i c.args.len c.index.result.now c.index_mut-restarted.result.now c.restart.new.self
+    c.in_ok-i.ensures.at.0 c.index.ensures c.index_mut-restarted.ensures.value
+    (keeps_at _ exact es c.args.server (kept_by c.args.self.now) c.server_at.new.servers.items c.in_ok-i.i c.in_ok-i.ensures.at keeps)
+    (sym c.in-None.ensures) c.restart.ensures.same_id c.restart.ensures.same_term c.restart.ensures.same_voted
+    (ap (log_at c.args.self.now.logs) c.restart.ensures.log ∙ c.first.ensures.first)
+    (rw c.restart.ensures.log c.first.ensures.earlier) c.restart.ensures.durable c.restart.ensures.kept

@@ -1,53 +1,48 @@
-use Rattle.std.proofs.Common.{sym, refl}
+use Rattle.std.proofs.Common.{◌∙◌, ap, refl, sym}
 use Rattle.std.proofs.lemmas.Result.{err_from_is_err_and}
-use Rattle.raft_safety.proofs.lemmas.CheckerStepLemmas.{write_unled, write_refused, write_done, same_leader_again}
+use Rattle.raft_safety.specs.Log.{Entry}
+use Rattle.raft_safety.specs.Checker.{kept_by}
+use Rattle.raft_safety.proofs.lemmas.CheckerStepLemmas.{
+  exact_entries,
+  logs_by,
+  some_config,
+  write_done,
+  write_refused,
+  write_unled,
+}
+use Rattle.raft_safety.proofs.lemmas.LoopLemmas.{found_within}
 use Rattle.raft_safety.proofs.checker.Checker.wrote.Goals as goal
 
 pub returns-in-None-clause-answer : goal.returns-in-None-clause-answer
 returns-in-None-clause-answer g c =
-    λ exact es seen. write_unled _ exact es c.args.term c.args.leader c.args.entry
-    c.args.self.now.servers.items c.args.self.now.leaders.items (rw c.deref.ensures.value at (sym c.in-None.ensures.place)) seen
+    λ exact es keeps. write_unled _ exact es c.args.term c.args.leader c.args.entry (kept_by c.args.self.now)
+    (sym c.in-None.ensures.place) keeps
 
 pub returns-in-Some-write_rule-clause-answer : goal.returns-in-Some-write_rule-clause-answer
 returns-in-Some-write_rule-clause-answer g c =
-    λ exact es seen. write_refused _ exact es c.args.term c.args.leader c.args.entry
-    c.args.self.now.servers.items c.args.self.now.leaders.items c.in-Some.j c.index.result.now c.in-Some-write_rule.rule
-    (g.C.Configs.holds_config c.args.self.now.configs) (λ d. refl) refl (rw c.deref.ensures.value at (sym c.in-Some.ensures.place))
-    c.index.ensures seen
-    (sym c.in-Some-write_rule.ensures)
+    λ exact es keeps. write_refused _ exact es c.args.term c.args.leader c.args.entry (kept_by c.args.self.now)
+    c.in-Some.j c.index.result.now c.in-Some-write_rule.rule (g.C.Configs.holds_config c.args.self.now.configs) (λ d. refl) refl
+    (sym c.in-Some.ensures.place) c.index.ensures keeps
+    (sym (c.in-Some-write_rule.ensures (logs_by (g.C.Configs.holds_config c.args.self.now.configs) c.args.self.now.logs keeps.are_logs)
+    (keeps.have_logs.of_leaders c.in-Some.j c.index.result.now (found_within _ _ _ (sym c.in-Some.ensures.place)) c.index.ensures)))
 
-pub returns-in_err-write-clause-answer : goal.returns-in_err-write-clause-answer
-returns-in_err-write-clause-answer g c =
+pub returns-in_err-log-clause-answer : goal.returns-in_err-log-clause-answer
+returns-in_err-log-clause-answer g c =
     let p = err_from_is_err_and c.from_residual.result c.from_residual.ensures.1 in
-    rw (p.1, p.2) (λ exact es seen. (
-      tt,
-      same_leader_again _ exact es c.args.term c.args.leader c.args.self.now.servers.items c.args.self.now.leaders.items c.in-Some.j
-          c.index_mut.result.now c.write.new.self (rw c.deref.ensures.value at (sym c.in-Some.ensures.place)) c.index_mut.ensures.value seen
-          c.in_err-write.ensures.same_acked
-          (record {
-            term = c.in_err-write.ensures.same_term;
-            id = c.in_err-write.ensures.same_id;
-            start = c.in_err-write.ensures.same_start;
-            log = c.in_err-write.ensures.err_log;
-            voters = c.in_err-write.ensures.same_voters;
-            elected = c.in_err-write.ensures.same_elected;
-            committed = c.in_err-write.ensures.same_committed;
-          }),
-    ))
+    rw (p.1, p.2) (λ exact es keeps. (tt, rw c.in_err-log.ensures.err keeps))
 
 pub returns-clause-answer : goal.returns-clause-answer
 returns-clause-answer g c =
-    λ exact es seen. write_done _ exact es c.args.term c.args.leader c.args.entry
-    c.args.self.now.servers.items c.args.self.now.leaders.items c.in-Some.j c.index.result.now c.index_mut.result.now c.write.new.self
-    (g.C.Configs.holds_config c.args.self.now.configs) (λ d. refl) refl (rw c.deref.ensures.value at (sym c.in-Some.ensures.place))
-    c.index.ensures
-    c.index_mut.ensures.value seen (sym c.in-None-write_rule.ensures) c.in_ok-write.ensures.same_acked
-    (record {
-      term = c.in_ok-write.ensures.same_term;
-      id = c.in_ok-write.ensures.same_id;
-      start = c.in_ok-write.ensures.same_start;
-      log = c.in_ok-write.ensures.log;
-      voters = c.in_ok-write.ensures.same_voters;
-      elected = c.in_ok-write.ensures.same_elected;
-      committed = c.in_ok-write.ensures.same_committed;
-    })
+    λ exact es keeps. write_done _ exact es c.args.term c.args.leader c.args.entry (kept_by c.args.self.now)
+    c.in-Some.j c.child.new.self c.index.result.now c.index-2.result.now c.index_mut.result.now c.write.new.self
+    (g.C.Configs.holds_config c.args.self.now.configs) (λ d. refl) refl (sym c.in-Some.ensures.place) c.index.ensures
+    c.index-2.ensures c.index_mut.ensures.value keeps
+    (sym (c.in-None-write_rule.ensures (logs_by (g.C.Configs.holds_config c.args.self.now.configs) c.args.self.now.logs keeps.are_logs)
+    (keeps.have_logs.of_leaders c.in-Some.j c.index.result.now (found_within _ _ _ (sym c.in-Some.ensures.place)) c.index.ensures)))
+    (rw c.write.ensures.log (c.in_ok-log.ensures.child _ (exact_entries _ exact) keeps.are_logs
+    (keeps.have_logs.of_leaders c.in-Some.j c.index-2.result.now (found_within _ _ _ (sym c.in-Some.ensures.place)) c.index-2.ensures)
+    (c.holds_config-is_config.ensures
+    ∙ ap (λ (e : Entry g.row.T.Denot g.row.D.Denot). g.C.Configs.holds_config c.args.self.now.configs e.content) c.entry.view_is
+    ∙ sym (some_config (g.C.Configs.holds_config c.args.self.now.configs) c.args.entry.content))))
+    c.write.ensures.same_acked c.write.ensures.same_term c.write.ensures.same_id c.write.ensures.same_start
+    c.write.ensures.same_voters c.write.ensures.same_elected c.write.ensures.same_committed

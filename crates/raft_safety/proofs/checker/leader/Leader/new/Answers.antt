@@ -1,5 +1,4 @@
 use Rattle.std.proofs.Common.{◌≡◌, ◌∙◌, ◌++◌, ◌∷◌, [], ap}
-use Rattle.std.specs.Set.{is_member}
 use Rattle.std.proofs.lemmas.Result.{err_from_is_err_and}
 use Rattle.raft_safety.proofs.lemmas.CheckerCodeLemmas.{distinct_one}
 use Rattle.raft_safety.proofs.checker.leader.Leader.new.Goals as goal
@@ -18,27 +17,11 @@ returns-in_err-push g c =
       committed = tt;
     })
 
-pub returns-in_err-from_slice : goal.returns-in_err-from_slice
-returns-in_err-from_slice g c =
-    let p = err_from_is_err_and c.from_residual-in_err-from_slice.result c.from_residual-in_err-from_slice.ensures.1 in
-    rw p.1 (record {
-      term = tt;
-      id = tt;
-      start = tt;
-      log = tt;
-      voters = tt;
-      elected = tt;
-      acked = tt;
-      committed = tt;
-    })
-
 pub returns-clause-elected : goal.returns-clause-elected
 returns-clause-elected g c =
     let voters : c.deref.result.now ≡ c.args.id ∷ [] =
     c.deref.ensures.value ∙ c.in_ok-push.ensures.items ∙ ap (λ l. l ++ c.args.id ∷ []) c.new-voters.ensures.items in
     rw voters at c.is_quorum-elected.ensures (distinct_one g.N.PartialEq.eq c.args.id)
-    ∙ ap (λ x. g.C.Configs.has_quorum c.args.configs.now x (is_member g.N.PartialEq.eq (c.args.id ∷ [])))
-    c.effective_config.ensures
 
 pub returns-clause-voters : goal.returns-clause-voters
 returns-clause-voters g c =
