@@ -2,6 +2,7 @@ pub mod AppendLemmas
 pub mod ChangeLemmas
 pub mod CutLemmas
 pub mod FollowerLemmas
+pub mod GrantedLemmas
 pub mod HonestLemmas
 pub mod KnownLemmas
 pub mod RefusalLemmas

@@ -1,7 +1,10 @@
 -- What a candidate knows, and what elects it.
-use Rattle.std.specs.Prelude.{◌≡◌, ◌≤◌, ◌+◌, ◌^◌, ◌⊎◌, ℕ, Bool, false, ◌&&◌, ◌||◌, Option, is_some}
+use Rattle.std.specs.Prelude.{◌≡◌, ◌≤◌, ◌+◌, ◌^◌, ◌⊎◌, ℕ, Bool, false, max, ◌&&◌, ◌||◌, Option, Some, is_some, IsTrue}
 use Rattle.std.specs.Option.{option_map_or}
+use Rattle.std.specs.declared.cmp.Ordering.TheVariants.{Greater}
 use mathlib.Core.Bool.{beq}
+use Rattle.raft_base.specs.UTime.{moment_of, utime_of}
+use Rattle.raft_base.specs.Vote.{vote_cmp}
 use Rattle.raft_base.specs.declared.log_id.LogIdOf.{LogIdOf}
 use Rattle.raft_base.specs.declared.vote.VoteIn.{VoteIn}
 use Rattle.raft_members.specs.quorum.Majority.{is_voter_of}
@@ -10,9 +13,11 @@ use Rattle.raft_progress.specs.progress.ProgressView.{state}
 use Rattle.raft_progress.specs.tracked.EachConfig.{MajorityOfEach}
 use Rattle.raft_progress.specs.tracked.TrackedState.{TrackedView}
 use Rattle.raft_state.specs.log_id_list.FullLog.{end_index, full_log}
-use Rattle.raft_state.specs.membership_state.Memberships.{Memberships}
+use Rattle.raft_state.specs.log_id_list.LogReads.{last_id}
+use Rattle.raft_state.specs.membership_state.Memberships.{Memberships, in_effect}
 use Rattle.raft_state.specs.raft_state.VoteAndLog.{vote_of}
 use Rattle.raft_state.specs.declared.raft_state.RaftStateIn.{RaftStateIn}
+use Rattle.raft_handlers.specs.Compared.{Compared}
 use Rattle.raft_handlers.specs.Entries.{IsFullLogRefusal}
 use Rattle.raft_handlers.specs.declared.error.HandlerError.{HandlerError}
 use Rattle.raft_handlers.specs.declared.error.HandlerError.TheVariants.{NoNextTerm, NotElected, NotLeader, NotVoter, OutOfMemory}
@@ -58,6 +63,27 @@ abbrev pub may_campaign : {K N C : Type 0} → (K → K → Bool) → K → Memb
 may_campaign eq id m =
     is_voter_of eq (membership_of m.effective).configs id
     || is_voter_of eq (membership_of m.committed).configs id
+
+-- a node campaigns, which may: its state promises a vote for it in the term after the greatest one that
+-- it has heard of; votes are counted by the effective membership, of which each voter is counted, and
+-- of whose members only the node itself has voted yet
+pub record Campaigns {K N I L C : Type 0} (by : Compared K N L C) (id : K) (greatest_term : ℕ)
+    (old new : RaftStateIn K N I L C) (made : Campaign K N L C) : Type 0 where
+  pub may : IsTrue (may_campaign by.id_eq id old.membership_state)
+  pub node : made.id ≡ id
+  pub vote : made.vote ≡ record {
+    leader_id = by.leader_of (max greatest_term (by.term_of (vote_of old).leader_id) + 1) id;
+    committed = false;
+  }
+  pub is_greater : vote_cmp by.order made.vote (vote_of old) ≡ Some Greater
+  pub promised : new ≡ record old { vote = utime_of made.vote (moment_of old.vote) }
+  pub last : made.last_log_id ≡ last_id (full_log old.log_ids)
+  pub configs : made.votes.membership.configs ≡ (in_effect old.membership_state).configs
+  pub voters_counted : (x : K)
+      → IsTrue (is_voter_of by.id_eq (in_effect old.membership_state).configs x)
+      → IsTrue (is_counted by.id_eq made x)
+  pub own_vote : (x : K)
+      → has_vote_of by.id_eq made x ≡ (by.id_eq id x && is_counted by.id_eq made id)
 
 -- why a node does not campaign: it may not, there is no greater term, or an allocation failed
 abbrev pub IsCampaignRefusal : {K N C : Type 0} → (K → K → Bool) → K → ℕ → Memberships C K N

@@ -1,23 +1,29 @@
 -- What a leader knows of its members, and when it leads, commits and proposes.
-use Rattle.std.specs.Prelude.{◌≡◌, ℕ, Bool, true, false, ◌&&◌, ◌⊎◌, ◌^◌, not, nat_lt, Option, Some, None, IsTrue}
+use Rattle.std.specs.Prelude.{◌≡◌, ◌↔◌, ℕ, Bool, true, false, ◌&&◌, ◌⊎◌, ◌^◌, not, nat_lt, Option, Some, None, is_some}
+use Rattle.std.specs.Prelude.{IsTrue, if◌then◌else◌}
 use Rattle.std.specs.Map.{update}
 use Rattle.std.specs.Option.{option_cmp, option_eq}
 use Rattle.std.specs.declared.cmp.Ordering.{Ordering}
-use Rattle.raft_base.specs.LogId.{log_id_cmp, next_index}
+use Rattle.raft_base.specs.LogId.{id_le, id_lt, log_id_cmp, next_index}
+use Rattle.raft_base.specs.UTime.{moment_of, utime_of}
 use Rattle.raft_base.specs.declared.log_id.LogIdOf.{LogIdOf}
 use Rattle.raft_members.specs.membership.Change.{changed}
 use Rattle.raft_members.specs.membership.Members.{members_of, same_members}
+use Rattle.raft_members.specs.quorum.Majority.{is_voter_of}
 use Rattle.raft_members.specs.quorum.Reached.{EachQuorumKnows}
 use Rattle.raft_members.specs.membership.Stored.{membership_of}
 use Rattle.raft_members.specs.declared.change_members.ChangeMembers.{ChangeMembers}
+use Rattle.raft_progress.specs.progress.Comparisons.{OrdMembers}
 use Rattle.raft_progress.specs.progress.CountedValue.{has_part}
 use Rattle.raft_progress.specs.progress.ProgressView.{state}
+use Rattle.raft_progress.specs.tracked.EachConfig.{MajorityOfEach}
 use Rattle.raft_progress.specs.tracked.Followers.{Followers, member_value}
 use Rattle.raft_progress.specs.tracked.Known.{QuorumsKnow}
 use Rattle.raft_progress.specs.tracked.TrackedState.{TrackedView}
 use Rattle.raft_progress.specs.declared.entry.ProgressEntryOf.{ProgressEntryOf}
 use Rattle.raft_progress.specs.declared.inflight.InflightOf.TheVariants.{None as Idle}
-use Rattle.raft_handlers.specs.Campaign.{may_campaign}
+use Rattle.raft_handlers.specs.Campaign.{Campaign, HasMajorities, may_campaign, same_vote}
+use Rattle.raft_handlers.specs.Compared.{Compared}
 use Rattle.raft_handlers.specs.Entries.{IsFullLogRefusal}
 use Rattle.raft_handlers.specs.declared.error.HandlerError.{HandlerError}
 use Rattle.raft_handlers.specs.declared.error.HandlerError.TheVariants.{
@@ -27,7 +33,7 @@ use Rattle.raft_handlers.specs.declared.error.HandlerError.TheVariants.{
   NotLogged,
   OutOfMemory,
 }
-use Rattle.raft_state.specs.raft_state.Commit.{state_commits, state_may_commit}
+use Rattle.raft_state.specs.raft_state.Commit.{state_after_commit, state_commits, state_may_commit}
 use Rattle.raft_state.specs.log_id_list.FullLog.{end_index, full_log}
 use Rattle.raft_state.specs.membership_state.Memberships.{Memberships}
 use Rattle.raft_state.specs.raft_state.VoteAndLog.{log_view_of, vote_of}
@@ -50,11 +56,11 @@ is_of_leader eq leader None = false
 is_of_leader eq leader (Some id) = eq id.leader_id leader
 
 -- the vote of a state is the committed vote for this leader, and for its node
-abbrev pub leads : {K N M I L C : Type 0} → (K → K → Bool) → (C → C → Bool) → (L → C)
-    → (L → Option K) → Leadership K N C → RaftStateIn K M I L C → Bool
-leads eq same committed voted l s =
-    (vote_of s).committed && same (committed (vote_of s).leader_id) l.leader_id
-    && option_eq eq (voted (vote_of s).leader_id) (Some l.id)
+abbrev pub is_leading : {K N I L C : Type 0} → Compared K N L C → Leadership K N C
+    → RaftStateIn K N I L C → Bool
+is_leading by l s =
+    (vote_of s).committed && by.eq (by.committed (vote_of s).leader_id) l.leader_id
+    && option_eq by.id_eq (by.voted (vote_of s).leader_id) (Some l.id)
 
 -- a leader that may not campaign any more is removed
 abbrev pub is_removed : {K N M C : Type 0} → (K → K → Bool) → Leadership K N C → Memberships C K M
@@ -87,16 +93,34 @@ module _ {K N C : Type 0} (eq : K → K → Bool) where
     pub member : WritesMember eq old.followers id entry new.followers
     pub rest : new ≡ record old { followers = new.followers }
 
-  -- the leader counts by a copy of the effective membership of a state, and nothing is known of its
-  -- members but that no log matches the leader's from its end on
-  pub record KnowsNothing {I L : Type 0} (same : N → N → Bool) (s : RaftStateIn K N I L C)
-      (l : Leadership K N C) : Type 0 where
+  -- a node begins to lead with a committed leader id: it counts by a copy of the effective membership
+  -- of a state, of which each voter is counted, and nothing is known of the members but that no log
+  -- matches the leader's from its end on
+  pub record BeginsToLead {I L : Type 0} (same : N → N → Bool) (id : K) (leader_id : C)
+      (s : RaftStateIn K N I L C) (l : Leadership K N C) : Type 0 where
+    pub node : l.id ≡ id
+    pub leader : l.leader_id ≡ leader_id
     pub members : IsTrue (same_members eq same (membership_of s.membership_state.effective)
         l.followers.membership)
     pub configs : l.followers.membership.configs
         ≡ (membership_of s.membership_state.effective).configs
+    pub voters_counted : (x : K)
+        → IsTrue (is_voter_of eq (membership_of s.membership_state.effective).configs x)
+        → IsTrue (is_some (entry_of l x))
     pub entries : (x : K) (entry : ProgressEntryOf C) → entry_of l x ≡ Some entry
         → entry ≡ unknown_entry (end_index (full_log s.log_ids))
+
+-- an elected candidate becomes the leader: a majority of each config has voted for it, the vote of the
+-- state is the candidate's and is committed now, and nothing is known of the members yet
+pub record BecomesLeader {K N I L C : Type 0} (by : Compared K N L C) (candidate : Campaign K N L C)
+    (old new : RaftStateIn K N I L C) (made : Leadership K N C) : Type 0 where
+  pub elected : HasMajorities by.id_eq candidate
+  pub vote : IsTrue (same_vote by.leader_eq (vote_of old) candidate.vote)
+  pub begins : BeginsToLead by.id_eq by.node_eq candidate.id
+      (by.committed (vote_of old).leader_id) old made
+  pub committed : new ≡ record old {
+    vote = utime_of (record (vote_of old) { committed = true }) (moment_of old.vote);
+  }
 
 module _ {K N C : Type 0} (eq : K → K → Bool) (cmp : C → C → Ordering) where
   -- each quorum of the membership has a voter whose match is at least a log id
@@ -114,6 +138,16 @@ module _ {K N C : Type 0} (eq : K → K → Bool) (cmp : C → C → Ordering) w
       (state eq l.followers.progress).is_voter
       (λ id. has_part (option_cmp (log_id_cmp cmp)) (λ e. e.matching) upto (entry_of eq l id))
 
+  -- a majority of each config of the membership matches a log id
+  abbrev pub MajorityMatches : Leadership K N C → LogIdOf C → Type 0
+  MajorityMatches l id = MajorityOfEach eq l.followers (λ e. id_le cmp (Some id) e.matching)
+
+  -- what is granted is the greatest log id that a majority of each config matches: a log id is at most
+  -- what is granted exactly if a majority of each config matches it
+  abbrev pub IsGreatestMatch : Leadership K N C → Option (LogIdOf C) → Type 0
+  IsGreatestMatch l granted =
+      (id : LogIdOf C) → IsTrue (id_le cmp (Some id) granted) ↔ MajorityMatches l id
+
 -- what is known of a node whose log is on disk up to a log id, as the leader's own is
 abbrev pub flushed_entry : {C : Type 0} → Option (LogIdOf C) → ProgressEntryOf C
 flushed_entry upto = record {
@@ -123,27 +157,51 @@ flushed_entry upto = record {
   searching_end = next_index upto;
 }
 
--- why a leader does not count what is on its disk up to a log id: no index is after it, or the log
--- does not have it
-abbrev pub IsFlushRefusal : {K N I L C : Type 0} → (C → C → Bool) → Option (LogIdOf C)
-    → RaftStateIn K N I L C → HandlerError → Type 0
-IsFlushRefusal eq upto s NoNextIndex = nat_lt (next_index upto) (2 ^ 64) ≡ false
-IsFlushRefusal eq upto s NotLogged = none_or_logged eq (log_view_of s) upto ≡ false
-IsFlushRefusal eq upto s refusal = ⊥
+-- why a leader does not count what is on its disk up to a log id: it does not lead, no index is after
+-- the log id, or the log does not have it
+abbrev pub IsFlushRefusal : {K N I L C : Type 0} → Compared K N L C → Leadership K N C
+    → Option (LogIdOf C) → RaftStateIn K N I L C → HandlerError → Type 0
+IsFlushRefusal by l upto s NotLeader = is_leading by l s ≡ false
+IsFlushRefusal by l upto s NoNextIndex = nat_lt (next_index upto) (2 ^ 64) ≡ false
+IsFlushRefusal by l upto s NotLogged = none_or_logged by.eq (log_view_of s) upto ≡ false
+IsFlushRefusal by l upto s refusal = ⊥
+
+-- a commit is due: a quorum has an entry of the leader's own that is not committed yet
+abbrev pub is_commit_due : {K N I L C : Type 0} → OrdMembers C → Leadership K N C
+    → RaftStateIn K N I L C → Bool
+is_commit_due by l s =
+    is_of_leader by.eq l.leader_id (granted_by l) && id_lt by.cmp s.committed (granted_by l)
+
+-- what a leader commits, if a commit is due: what a quorum has, which is in its log, and all before it
+pub record Commits {K N I L C : Type 0} (eq : K → K → Bool) (by : OrdMembers C) (leader : Leadership K N C)
+    (old new : RaftStateIn K N I L C) (more : Bool) : Type 0 where
+  pub answer : more ≡ is_commit_due by leader old
+  pub logged : IsTrue more → IsTrue (none_or_logged by.eq (log_view_of old) (granted_by leader))
+  pub is_granted : IsTrue more → new.committed ≡ granted_by leader
+  pub greatest : IsGreatestMatch eq by.cmp leader (granted_by leader)
+  pub committed : new
+      ≡ (if more then state_after_commit by.cmp (granted_by leader) old else old)
 
 -- why the commit of what is granted is refused: the log does not have it, the memberships are not in
 -- the order of the log, or an allocation failed, which only the commit of a membership makes
-abbrev pub IsCommitRefusal : {K N I L C : Type 0} → (C → C → Bool) → (C → C → Ordering)
-    → Option (LogIdOf C) → RaftStateIn K N I L C → HandlerError → Type 0
-IsCommitRefusal eq cmp granted s NotLogged = none_or_logged eq (log_view_of s) granted ≡ false
-IsCommitRefusal eq cmp granted s MembershipNotInOrder = state_may_commit cmp granted s ≡ false
-IsCommitRefusal eq cmp granted s OutOfMemory = state_commits cmp granted s ≡ true
-IsCommitRefusal eq cmp granted s refusal = ⊥
+abbrev pub IsCommitRefusal : {K N I L C : Type 0} → OrdMembers C → Option (LogIdOf C)
+    → RaftStateIn K N I L C → HandlerError → Type 0
+IsCommitRefusal by granted s NotLogged = none_or_logged by.eq (log_view_of s) granted ≡ false
+IsCommitRefusal by granted s MembershipNotInOrder = state_may_commit by.cmp granted s ≡ false
+IsCommitRefusal by granted s OutOfMemory = state_commits by.cmp granted s ≡ true
+IsCommitRefusal by granted s refusal = ⊥
+
+-- a commit that is due is refused, and the state is as it was
+pub record RefusesCommit {K N I L C : Type 0} (by : OrdMembers C) (leader : Leadership K N C)
+    (old new : RaftStateIn K N I L C) (e : HandlerError) : Type 0 where
+  pub due : IsTrue (is_commit_due by leader old)
+  pub refused : IsCommitRefusal by (granted_by leader) old e
+  pub err : new ≡ old
 
 -- why a node does not lead on: the vote is not committed or not for it, or nothing can follow its log
-abbrev pub IsResumeRefusal : {K N I L C : Type 0} → (K → K → Bool) → (L → Option K) → K
-    → RaftStateIn K N I L C → HandlerError → Type 0
-IsResumeRefusal eq voted id s e =
+abbrev pub IsResumeRefusal : {K N I L C : Type 0} → Compared K N L C → K → RaftStateIn K N I L C
+    → HandlerError → Type 0
+IsResumeRefusal by id s e =
     ((e ≡ NotLeader) × (((vote_of s).committed
-    && option_eq eq (voted (vote_of s).leader_id) (Some id)) ≡ false))
+    && option_eq by.id_eq (by.voted (vote_of s).leader_id) (Some id)) ≡ false))
     ⊎ IsFullLogRefusal (end_index (full_log s.log_ids)) e

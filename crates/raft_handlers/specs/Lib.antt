@@ -1,6 +1,7 @@
 pub mod Append
 pub mod Campaign
 pub mod Changes
+pub mod Compared
 pub mod Entries
 pub mod Follow
 pub mod Honest

@@ -1,17 +1,23 @@
 -- What a leader proposes.
-use Rattle.std.specs.Prelude.{◌≡◌, ◌^◌, Bool, false, nat_lt, ◌++◌, [], ◌∷◌, List, Option, Some, None}
+use Rattle.std.specs.Prelude.{◌≡◌, ◌^◌, Bool, false, nat_lt, ◌&&◌, ◌++◌, [], ◌∷◌, List, Option, Some, None, IsTrue}
 use Rattle.std.specs.declared.cmp.Ordering.{Ordering}
 use Rattle.raft_base.specs.declared.log_id.LogIdOf.{LogIdOf}
+use Rattle.raft_handlers.specs.Compared.{Compared}
+use Rattle.raft_handlers.specs.Leadership.{Leadership, is_leading}
 use Rattle.raft_handlers.specs.declared.error.HandlerError.{HandlerError}
 use Rattle.raft_handlers.specs.declared.error.HandlerError.TheVariants.{NoNextIndex, NotInOrder, NotLeader, OutOfMemory}
-use Rattle.raft_state.specs.log_id_list.FullLog.{end_index, full_log}
+use Rattle.raft_state.specs.Accepted.{after_accept}
+use Rattle.raft_state.specs.log_id_list.FullLog.{end_index, full_log, same_log}
 use Rattle.raft_members.specs.membership.Members.{MemberList}
 use Rattle.raft_members.specs.declared.membership.stored.StoredMembershipOf.{StoredMembershipOf}
 use Rattle.raft_state.specs.raft_state.Appended.{IsStoredBy, may_append_entries}
+use Rattle.raft_state.specs.raft_state.Install.{may_accept}
+use Rattle.raft_state.specs.raft_state.VoteAndLog.{vote_of}
 use Rattle.raft_state.specs.membership_state.MembershipMoves.{after_append}
 use Rattle.raft_state.specs.membership_state.Memberships.{Memberships}
 use Rattle.raft_state.specs.entry.Entry.{payload_membership}
 use Rattle.raft_state.specs.declared.entry.EntryOf.{EntryOf}
+use Rattle.raft_state.specs.declared.entry.payload.EntryPayload.{EntryPayload}
 use Rattle.raft_state.specs.declared.raft_state.RaftStateIn.{RaftStateIn}
 
 -- the log id of a leader's next entry: the index after the last log id
@@ -42,3 +48,36 @@ IsProposalRefusal cmp leads entry s NotInOrder =
     may_append_entries cmp (λ e. e.log_id) (λ e. payload_membership e.payload) (entry ∷ []) s ≡ false
 IsProposalRefusal cmp leads entry s OutOfMemory = Unit {0}
 IsProposalRefusal cmp leads entry s refusal = ⊥
+
+module _ {K N I L C : Type 0} (by : Compared K N L C) where
+  -- an entry of the leader's own is appended: the leader leads, the entry has the payload under the
+  -- next log id, the log has it at its end, a membership in it is effective, it is accepted, and all
+  -- else is as it was
+  pub record AppendsOwn {D : Type 0} (leader : Leadership K N C) (payload : EntryPayload K N D)
+      (old new : RaftStateIn K N I L C) (entry : EntryOf C K N D) : Type 0 where
+    pub leads : IsTrue (is_leading by leader old)
+    pub is_next : entry ≡ record { log_id = next_own_id leader.leader_id old; payload = payload }
+    pub log : IsTrue (same_log by.eq (full_log new.log_ids) (log_with_own leader.leader_id old))
+    pub memberships : AppendsPayload by.id_eq by.node_eq (next_own_id leader.leader_id old)
+        (payload_membership payload) old.membership_state new.membership_state
+    pub accepted : new.accepted
+        ≡ after_accept by.leader_eq by.cmp old.accepted (vote_of old).leader_id
+        (Some (next_own_id leader.leader_id old))
+    pub rest : new ≡ record old {
+      log_ids = new.log_ids;
+      membership_state = new.membership_state;
+      accepted = new.accepted;
+    }
+
+  -- why the leader's next entry is refused with this payload
+  abbrev pub IsOwnRefusal : {D : Type 0} → Leadership K N C → EntryPayload K N D
+      → RaftStateIn K N I L C → HandlerError → Type 0
+  IsOwnRefusal leader payload old e =
+      IsProposalRefusal by.cmp (is_leading by leader old && may_accept by.order old)
+      (record { log_id = next_own_id leader.leader_id old; payload = payload }) old e
+
+  -- an entry of the leader's own is refused, and the state is as it was
+  pub record RefusesOwn {D : Type 0} (leader : Leadership K N C) (payload : EntryPayload K N D)
+      (old new : RaftStateIn K N I L C) (e : HandlerError) : Type 0 where
+    pub refused : IsOwnRefusal leader payload old e
+    pub err : new ≡ old

@@ -1,12 +1,20 @@
--- What a response makes of what a leader knows of its sender.
-use Rattle.std.specs.Prelude.{ℕ, Bool, Option, Some, None, Result, Ok, Err}
+-- What a leader sends to a member next, and what the response makes of what it knows of the member.
+use Rattle.std.specs.Prelude.{◌≡◌, ℕ, Bool, false, Option, Some, None, Result, Ok, Err, IsOk, IsTrue, OnErr}
 use Rattle.std.specs.declared.cmp.Ordering.{Ordering}
+use Rattle.raft_base.specs.LogView.{LogView}
+use Rattle.raft_base.specs.Logged.{Logged}
 use Rattle.raft_progress.specs.entry.EntryTable.{entry_after_ack, entry_after_conflict}
+use Rattle.raft_progress.specs.entry.Request.{after_request}
+use Rattle.raft_progress.specs.inflight.Inflight.{is_idle}
+use Rattle.raft_progress.specs.progress.Comparisons.{OrdMembers}
 use Rattle.raft_progress.specs.declared.entry.ProgressEntryOf.{ProgressEntryOf}
 use Rattle.raft_progress.specs.declared.inflight.InflightError.{InflightError}
-use Rattle.raft_handlers.specs.Leadership.{Leadership}
+use Rattle.raft_progress.specs.declared.inflight.InflightOf.{InflightOf}
+use Rattle.raft_progress.specs.declared.inflight.InflightOf.TheVariants.{None as Idle}
+use Rattle.raft_state.specs.raft_state.Sending.{FromLog}
+use Rattle.raft_handlers.specs.Leadership.{Leadership, WritesEntry, entry_of}
 use Rattle.raft_handlers.specs.declared.error.HandlerError.{HandlerError}
-use Rattle.raft_handlers.specs.declared.error.HandlerError.TheVariants.{HigherVote, ResponseRefused}
+use Rattle.raft_handlers.specs.declared.error.HandlerError.TheVariants.{ForeignResponse, HigherVote, ResponseRefused, UnknownMember}
 use Rattle.raft_handlers.specs.declared.message.Outcome.{Outcome}
 use Rattle.raft_handlers.specs.declared.message.Outcome.TheVariants.{Matches, Conflict, HigherVote as RefusedFor}
 use Rattle.raft_handlers.specs.declared.message.Response.{Response}
@@ -16,22 +24,60 @@ abbrev pub answers : {L K N C : Type 0} → (C → C → Bool) → Response L C 
 answers eq response leader = eq response.leader_id leader.leader_id
 
 -- a refusal of what is in flight as a refusal of the leader
-abbrev pub refused : {S : Type 0} → Result S InflightError → Result S HandlerError
-refused (Ok entry) = Ok entry
-refused (Err e) = Err (ResponseRefused e)
+abbrev pub as_refused : {S : Type 0} → Result S InflightError → Result S HandlerError
+as_refused (Ok entry) = Ok entry
+as_refused (Err e) = Err (ResponseRefused e)
 
 -- an acknowledgement of a request raises the match, a conflict lowers the end of the search, the
 -- response to a heartbeat that matches changes nothing, and that of a higher vote is refused
 abbrev pub after_outcome : {L C : Type 0} → (C → C → Ordering) → ProgressEntryOf C → Option ℕ
     → Outcome L C → Result (ProgressEntryOf C) HandlerError
 after_outcome cmp entry (Some request) (Matches upto) =
-    refused (entry_after_ack cmp entry request upto)
+    as_refused (entry_after_ack cmp entry request upto)
 after_outcome cmp entry None (Matches upto) = Ok entry
 after_outcome cmp entry request (Conflict index) =
-    refused (entry_after_conflict entry request index)
+    as_refused (entry_after_conflict entry request index)
 after_outcome cmp entry request (RefusedFor vote) = Err HigherVote
 
 -- what is known of a member after its response
 abbrev pub after_response : {L C : Type 0} → (C → C → Ordering) → ProgressEntryOf C → Response L C
     → Result (ProgressEntryOf C) HandlerError
 after_response cmp entry response = after_outcome cmp entry response.request response.outcome
+
+module _ {K N C : Type 0} (eq : K → K → Bool) (by : OrdMembers C) where
+  -- what is sent to a member next: what is put in flight, if a send is allowed and there is something to
+  -- send, and otherwise a heartbeat, which changes nothing; to an id of no member nothing is sent; over
+  -- a log that has all its log ids from the purge point on, what is sent is a piece of the log
+  pub record SendsNext (to : K) (log : LogView C) (max_entries : ℕ) (old new : Leadership K N C)
+      (result : Option (InflightOf C)) : Type 0 where
+    pub unknown : entry_of eq old to ≡ None → result ≡ None
+    pub sent : (entry next : ProgressEntryOf C) → entry_of eq old to ≡ Some entry
+        → after_request by.cmp entry log max_entries ≡ Some next → result ≡ Some next.inflight
+    pub in_flight : (entry next : ProgressEntryOf C) → entry_of eq old to ≡ Some entry
+        → after_request by.cmp entry log max_entries ≡ Some next → WritesEntry eq old to next new
+    pub from_log : (entry next : ProgressEntryOf C) → entry_of eq old to ≡ Some entry
+        → after_request by.cmp entry log max_entries ≡ Some next → IsTrue (is_idle entry.inflight)
+        → Logged by.cmp log → FromLog log max_entries entry next.inflight
+    pub heartbeat : (entry : ProgressEntryOf C) → entry_of eq old to ≡ Some entry
+        → after_request by.cmp entry log max_entries ≡ None → result ≡ Some Idle
+    pub unchanged : result ≡ None → new ≡ old
+    pub unchanged_by_heartbeat : (entry : ProgressEntryOf C) → entry_of eq old to ≡ Some entry
+        → after_request by.cmp entry log max_entries ≡ None → new ≡ old
+
+  -- what a response does: one to another leader or of no member is refused; otherwise it is taken as the
+  -- table of responses says, or refused; a refused response changes nothing
+  pub record TakesResponse {L : Type 0} (from : K) (response : Response L C) (old new : Leadership K N C)
+      (result : Result (Unit {0}) HandlerError) : Type 0 where
+    pub foreign : answers by.eq response old ≡ false → result ≡ Err ForeignResponse
+    pub unknown : IsTrue (answers by.eq response old) → entry_of eq old from ≡ None
+        → result ≡ Err UnknownMember
+    pub ok : (entry next : ProgressEntryOf C) → IsTrue (answers by.eq response old)
+        → entry_of eq old from ≡ Some entry → after_response by.cmp entry response ≡ Ok next
+        → IsOk result
+    pub taken : (entry next : ProgressEntryOf C) → IsTrue (answers by.eq response old)
+        → entry_of eq old from ≡ Some entry → after_response by.cmp entry response ≡ Ok next
+        → WritesEntry eq old from next new
+    pub refused : (entry : ProgressEntryOf C) (e : HandlerError)
+        → IsTrue (answers by.eq response old) → entry_of eq old from ≡ Some entry
+        → after_response by.cmp entry response ≡ Err e → result ≡ Err e
+    pub err : OnErr result (new ≡ old)

@@ -1,13 +1,8 @@
 //! A candidate: it votes for itself, asks the others for their votes, and counts them.
-ghost use Rattle.std.specs.Prelude.{◌≡◌, ◌↔◌, ◌+◌, ◌&&◌, ◌||◌, max, false, true, None, Some, IfErr, IfOk, IsOk, IsTrue, OnErr};
-ghost use Rattle.std.specs.declared.cmp.Ordering.TheVariants.{Greater};
+ghost use Rattle.std.specs.Prelude.{◌≡◌, ◌↔◌, max, false, IfErr, IfOk, IsTrue, OnErr};
 ghost use Rattle.std.specs.Set.{ClonesAreEqual};
-ghost use Rattle.raft_base.specs.UTime.{moment_of, utime_of};
-ghost use Rattle.raft_base.specs.Vote.{vote_cmp};
-ghost use Rattle.raft_handlers.specs.Campaign.{CountsVoteOf, HasMajorities, IsCampaignRefusal, grants_vote, has_vote_of, is_counted, may_campaign};
-ghost use Rattle.raft_state.specs.log_id_list.FullLog.{full_log};
-ghost use Rattle.raft_state.specs.log_id_list.LogReads.{last_id};
-ghost use Rattle.raft_state.specs.membership_state.Memberships.{in_effect};
+ghost use Rattle.raft_handlers.specs.Campaign.{Campaigns, CountsVoteOf, HasMajorities, IsCampaignRefusal, grants_vote, may_campaign};
+ghost use Rattle.raft_handlers.specs.Compared.{compared};
 ghost use Rattle.raft_state.specs.raft_state.Sound.{IsSound};
 ghost use Rattle.raft_state.specs.raft_state.VoteAndLog.{vote_of};
 
@@ -18,8 +13,22 @@ use raft_base::{Instant, LeaderIdentity, LogIdOf, LogStateReader, Node, NodeId, 
 use raft_members::membership::Configs;
 use raft_progress::laws::{granted_is_threshold, quorums_know_granted};
 use raft_progress::{Progress, Tracked};
-use raft_state::VoteStateReader;
+use raft_state::{RaftStateIn, VoteStateReader};
 use std::marker::Model;
+
+/// Whether a node may campaign and lead: it is a voter of the effective or of the committed
+/// membership.
+///
+/// A voter that a change has removed may lead until it knows that the change is committed, because
+/// its log may be needed to commit it.
+pub fn may_lead<NID: NodeId, N: Node, I: Instant, L: Drop, C: Ord + Copy + Drop>(
+    id: &NID,
+    state: &RaftStateIn<NID, N, I, L, C>,
+) -> bool
+    ensures { result ≡ may_campaign NID.eq id.now state.now.membership_state }
+{
+    state.membership_state.is_voter(id) || state.membership_state.committed().is_voter(id)
+}
 
 /// A node that asks the voters of its effective membership for their votes.
 #[derive(Debug, Drop)]
@@ -65,31 +74,15 @@ impl<
         state: &mut State<NID, N, I, L>,
     ) -> Result<Self, HandlerError>
         requires clones_are_equal { ClonesAreEqual N.eq N.is_clone }
-        ensures vote { IfOk result (λ made. made.vote ≡ record {
-          leader_id =
-              L.leader_of (max greatest_term (L.term_of (vote_of state.old).leader_id) + 1) id;
-          committed = false;
-        }) }
-        ensures is_greater { IfOk result (λ made.
-            vote_cmp L.order made.vote (vote_of state.old) ≡ Some Greater) }
-        ensures node { IfOk result (λ made. made.id ≡ id) }
-        ensures last { IfOk result (λ made.
-            made.last_log_id ≡ last_id (full_log state.old.log_ids)) }
-        ensures configs { IfOk result (λ made. made.votes.membership.configs
-            ≡ (in_effect state.old.membership_state).configs) }
-        ensures own_vote { IfOk result (λ made. (x : NID) →
-            has_vote_of NID.eq made x ≡ (NID.eq id x && is_counted NID.eq made id)) }
-        ensures promised { IfOk result (λ made. state.new
-            ≡ record state.old { vote = utime_of made.vote (moment_of state.old.vote) }) }
-        ensures may { IsOk result → IsTrue (may_campaign NID.eq id state.old.membership_state) }
+        ensures campaigns { let by = compared NID.Ord N.eq L.LeaderIdentity C.Ord in
+            IfOk result (Campaigns by id greatest_term state.old state.new) }
         ensures refused { IfErr result (IsCampaignRefusal NID.eq id
             (max greatest_term (L.term_of (vote_of state.old).leader_id))
             state.old.membership_state) }
         ensures err { OnErr result (state.new ≡ state.old) }
         ensures sound { IsSound C.eq C.cmp state.old → IsSound C.eq C.cmp state.new }
     {
-        let memberships = &state.membership_state;
-        if !memberships.is_voter(&id) && !memberships.committed().is_voter(&id) {
+        if !may_lead(&id, state) {
             return Err(HandlerError::NotVoter);
         }
         let term = greatest_term.max(L::term(state.vote_ref().leader_id()));
@@ -98,7 +91,8 @@ impl<
         }
         let vote = VoteIn::new(term + 1, id);
         let last_log_id = state.last_log_id().copied();
-        let Ok(members) = memberships.effective().membership().try_clone() else {
+        let members = state.membership_state.effective().membership();
+        let Ok(members) = members.try_clone() else {
             return Err(HandlerError::OutOfMemory);
         };
         let Ok(mut votes) = Tracked::new(members, false) else {

@@ -1,10 +1,12 @@
 //! A leader: what it knows of the members, and what it sends, commits and proposes.
-ghost use Rattle.std.specs.Prelude.{◌≡◌, true, IfErr, IfOk, IsOk, IsTrue, OnErr, OnOk};
+ghost use Rattle.std.specs.Prelude.{◌≡◌, IfErr, IfOk, IsTrue, OnErr};
+ghost use Rattle.std.specs.Option.{option_copied};
 ghost use Rattle.std.specs.Set.{ClonesAreEqual};
-ghost use Rattle.raft_base.specs.UTime.{moment_of, utime_of};
-ghost use Rattle.raft_handlers.specs.Campaign.{HasMajorities, IsElectionRefusal, same_vote};
+ghost use Rattle.raft_handlers.specs.Campaign.{IsElectionRefusal};
+ghost use Rattle.raft_handlers.specs.Compared.{compared};
 ghost use Rattle.raft_handlers.specs.Entries.{IsFullLogRefusal};
-ghost use Rattle.raft_handlers.specs.Leadership.{IsResumeRefusal, KnowsNothing, leads};
+ghost use Rattle.raft_handlers.specs.Leadership.{BecomesLeader, BeginsToLead, IsResumeRefusal, entry_of, is_leading};
+ghost use Rattle.raft_progress.specs.tracked.Tracked.{tracked_view};
 ghost use Rattle.raft_state.specs.log_id_list.FullLog.{end_index, full_log};
 ghost use Rattle.raft_state.specs.raft_state.Sound.{IsSound};
 ghost use Rattle.raft_state.specs.raft_state.VoteAndLog.{vote_of};
@@ -20,7 +22,7 @@ use crate::error::HandlerError;
 use crate::state::State;
 pub use change::ChangeError;
 use raft_base::{Instant, LeaderIdentity, LogIdOf, LogIdOptionExt, LogStateReader, Node, NodeId};
-use raft_progress::{ProgressEntryOf, ProgressPart, Tracked};
+use raft_progress::{Progress, ProgressEntryOf, ProgressPart, Tracked};
 use raft_state::{RaftStateIn, VoteStateReader};
 use std::marker::Model;
 
@@ -43,6 +45,7 @@ where
     Option<LogIdOf<C>>: Ord,
     ProgressEntryOf<C>: ProgressPart<Option<LogIdOf<C>>>,
 {
+    ghost use Rattle.std.specs.Prelude.{◌≡◌, None};
     ghost use Rattle.raft_handlers.specs.Leadership.{Leadership};
     ghost use Rattle.raft_progress.specs.tracked.Tracked.{tracked_view};
 
@@ -53,6 +56,8 @@ where
       leader_id = a.leader_id;
       followers = tracked_view a.followers;
     } };
+
+    ghost invariant = { λ a. (tracked_view a.followers).progress.default_part ≡ None };
 }
 
 impl<NID: NodeId, N: Node, C: Ord + Copy + Drop> Leader<NID, N, C> {
@@ -68,17 +73,8 @@ impl<NID: NodeId, N: Node, C: Ord + Copy + Drop> Leader<NID, N, C> {
     where
         C: Default + 'static,
         requires clones_are_equal { ClonesAreEqual N.eq N.is_clone }
-        ensures elected { IsOk result → HasMajorities NID.eq candidate.now }
-        ensures same_vote { IsOk result →
-            IsTrue (same_vote L.eq (vote_of state.old) candidate.now.vote) }
-        ensures node { IfOk result (λ made. made.id ≡ candidate.now.id) }
-        ensures leader { IfOk result (λ made.
-            made.leader_id ≡ L.committed (vote_of state.old).leader_id) }
-        ensures followers { IfOk result (λ made. KnowsNothing NID.eq N.eq state.old made) }
-        ensures committed { OnOk result (state.new ≡ record state.old {
-          vote = utime_of (record (vote_of state.old) { committed = true })
-              (moment_of state.old.vote);
-        }) }
+        ensures leads { let by = compared NID.Ord N.eq L.LeaderIdentity C.Ord in
+            IfOk result (BecomesLeader by candidate.now state.old state.new) }
         ensures refused { IfErr result
             (IsElectionRefusal NID.eq L.eq candidate.now state.old) }
         ensures err { OnErr result (state.new ≡ state.old) }
@@ -91,7 +87,7 @@ impl<NID: NodeId, N: Node, C: Ord + Copy + Drop> Leader<NID, N, C> {
             return Err(HandlerError::NotLeader);
         }
         let leader_id = L::to_committed(state.vote_ref().leader_id());
-        let leader = Leader::of(candidate.id(), leader_id, state)?;
+        let leader = Leader::with_unknown_members(candidate.id(), leader_id, state)?;
         state.vote.get_mut().commit();
         Ok(leader)
     }
@@ -108,31 +104,28 @@ impl<NID: NodeId, N: Node, C: Ord + Copy + Drop> Leader<NID, N, C> {
     where
         C: Default + 'static,
         requires clones_are_equal { ClonesAreEqual N.eq N.is_clone }
-        ensures leads { IfOk result (λ made.
-            IsTrue (leads NID.eq C.eq L.committed L.voted made state.now)) }
-        ensures node { IfOk result (λ made. made.id ≡ id) }
-        ensures leader { IfOk result (λ made.
-            made.leader_id ≡ L.committed (vote_of state.now).leader_id) }
-        ensures followers { IfOk result (λ made. KnowsNothing NID.eq N.eq state.now made) }
-        ensures refused { IfErr result (IsResumeRefusal NID.eq L.voted id state.now) }
+        ensures leads { let by = compared NID.Ord N.eq L.LeaderIdentity C.Ord in
+            IfOk result (λ made. IsTrue (is_leading by made state.now)) }
+        ensures begins { IfOk result (BeginsToLead NID.eq N.eq id
+            (L.committed (vote_of state.now).leader_id) state.now) }
+        ensures refused { let by = compared NID.Ord N.eq L.LeaderIdentity C.Ord in
+            IfErr result (IsResumeRefusal by id state.now) }
     {
         let vote = state.vote_ref();
         if !vote.is_committed() || L::voted_for(vote.leader_id()) != Some(id) {
             return Err(HandlerError::NotLeader);
         }
-        Leader::of(id, L::to_committed(vote.leader_id()), state)
+        Leader::with_unknown_members(id, L::to_committed(vote.leader_id()), state)
     }
 
-    /// A leader that knows nothing of the members of a state.
-    fn of<I: Instant, L: Drop>(
+    /// Returns a leader that knows nothing of the members of a state.
+    fn with_unknown_members<I: Instant, L: Drop>(
         id: NID,
         leader_id: C,
         state: &RaftStateIn<NID, N, I, L, C>,
     ) -> Result<Self, HandlerError>
         requires clones_are_equal { ClonesAreEqual N.eq N.is_clone }
-        ensures node { IfOk result (λ made. made.id ≡ id) }
-        ensures leader { IfOk result (λ made. made.leader_id ≡ leader_id) }
-        ensures followers { IfOk result (λ made. KnowsNothing NID.eq N.eq state.now made) }
+        ensures begins { IfOk result (BeginsToLead NID.eq N.eq id leader_id state.now) }
         ensures refused { IfErr result
             (IsFullLogRefusal (end_index (full_log state.now.log_ids))) }
     {
@@ -166,5 +159,22 @@ impl<NID: NodeId, N: Node, C: Ord + Copy + Drop> Leader<NID, N, C> {
         ensures { result ≡ self.now.leader_id }
     {
         self.leader_id
+    }
+
+    /// Returns the members that the leader counts by, with what is known of each. The `iter` of its
+    /// `progress()` goes over them: the voters, then the learners.
+    pub fn followers(&self) -> &Tracked<NID, N, ProgressEntryOf<C>, Option<LogIdOf<C>>>
+        ensures { tracked_view result.now ≡ self.now.followers }
+    {
+        &self.followers
+    }
+
+    /// Returns what is known of a member: up to which log id it matches, what is in flight to it,
+    /// which may be entries or a snapshot, and up to where a probe searches for the last match. The
+    /// result is `None` for an id of no member.
+    pub fn member(&self, id: &NID) -> Option<&ProgressEntryOf<C>>
+        ensures { option_copied result ≡ entry_of NID.eq self.now id.now }
+    {
+        self.followers.progress().try_get(id)
     }
 }

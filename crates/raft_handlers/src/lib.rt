@@ -19,7 +19,7 @@ pub mod state;
 pub mod vote;
 
 pub use append::handle_append_entries;
-pub use candidate::Candidate;
+pub use candidate::{Candidate, may_lead};
 pub use error::HandlerError;
 pub use leader::{ChangeError, Leader};
 pub use message::{AppendEntries, InstallSnapshot, Outcome, Response, VoteRequest, VoteResponse};

@@ -5,7 +5,7 @@ use crate::snapshot::request;
 use crate::states::{Entry, Row, StateOf, id, voter};
 use raft_base::{EmptyNode, LeaderAdv, LeaderKind, LeaderStd, VoteOf};
 use raft_handlers::{HandlerError, Leader, Outcome, Response, handle_install_snapshot};
-use raft_progress::{InflightError, InflightOf};
+use raft_progress::{InflightError, InflightOf, Progress};
 use std::alloc::Global;
 use std::test::Fail;
 
@@ -172,6 +172,20 @@ impl<K: LeaderKind<u64>> Led<K> {
         }
     }
 
+    /// What is wrong with what the leader shows of its members at the end of `LIFE`, if anything is.
+    fn wrong_members(&self) -> Option<&'static str> {
+        let matching = self.leader.member(&2).map(|entry| entry.matching);
+        let in_flight = self.leader.member(&3).map(|entry| entry.inflight);
+        let sending = InflightOf::logs(None, id::<K>(END)).with_id(2);
+        let are_right = [
+            matching == Some(id::<K>(END)),
+            in_flight == Some(sending),
+            self.leader.member(&9).is_none(),
+            self.leader.followers().progress().iter().count() == 3,
+        ];
+        (are_right != [true; 4]).then_some("the members")
+    }
+
     /// Returns the name of the first row with another result.
     pub fn fails(&mut self, rows: &[(&'static str, Step, Right)]) -> Option<&'static str> {
         for (name, step, right) in rows {
@@ -266,6 +280,11 @@ pub const LIFE: &[(&str, Step, Right)] = &[
         Step::Propose,
         Right::Refused(HandlerError::NotLeader),
     ),
+    (
+        "its disk may have another leader's entries",
+        Step::Flush(END),
+        Right::Refused(HandlerError::NotLeader),
+    ),
 ];
 
 /// The row up to which there is a snapshot.
@@ -292,10 +311,12 @@ pub const SNAPSHOT: &[(&str, Step, Right)] = &[
     ),
 ];
 
-/// Returns the name of the first row of a leader's life with another result.
+/// Returns the name of the first row of a leader's life with another result, or what is seen of its
+/// members at the end if that is wrong: node 2 matches, and a request to node 3 is in flight.
 fn life<K: LeaderKind<u64>>(alloc: Global) -> Result<Option<&'static str>, HandlerError> {
     let mut led = Led::<K>::new(voter::<K>(alloc)?)?;
-    Ok(led.fails(LIFE))
+    let wrong = led.fails(LIFE);
+    Ok(wrong.or(led.wrong_members()))
 }
 
 /// Installs the snapshot from which the leader's log begins.

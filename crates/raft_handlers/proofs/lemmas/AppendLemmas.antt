@@ -1,5 +1,5 @@
 -- What an entry that is appended alone makes of the memberships.
-use Rattle.std.specs.Prelude.{◌≡◌, Bool, false, true, not, [], ◌∷◌, Option, Some, None, Result, Ok, Err, OnOk, refl}
+use Rattle.std.specs.Prelude.{◌≡◌, Bool, false, true, not, [], ◌∷◌, Option, Some, None, Result, Ok, Err, IfOk, OnOk, refl}
 use Rattle.std.specs.Result.{is_err}
 use Rattle.raft_base.specs.declared.log_id.LogIdOf.{LogIdOf}
 use Rattle.raft_members.specs.membership.Members.{MemberList}
@@ -17,10 +17,20 @@ pub on_ok : {A B : Type 0} (P Q : Type 0) (r : Result A B) → (P → Q) → OnO
 on_ok P Q (Ok x) f h = f h
 on_ok P Q (Err x) f h = tt
 
+-- what follows from a fact of the value on Ok
+pub ok_gives : {A B : Type 0} (P : A → Type 0) (Q : Type 0) (r : Result A B) → ((x : A) → P x → Q) → IfOk r P → OnOk r Q
+ok_gives P Q (Ok x) f h = f x h
+ok_gives P Q (Err x) f h = tt
+
 -- what is not false is true
 pub must_be : (b : Bool) → not b ≡ false → b ≡ true
 must_be true h = refl
 must_be false h = cc
+
+-- what is not true is false
+pub must_not_be : (b : Bool) → not b ≡ true → b ≡ false
+must_not_be true h = cc
+must_not_be false h = refl
 
 module _ {K N C E : Type 0} (eq : K → K → Bool) (same : N → N → Bool) where
   by_membership : (e : E) (id : LogIdOf C) (o : Option (MemberList K N)) (old new : Memberships C K N)

@@ -11,7 +11,7 @@ use Rattle.std.proofs.lemmas.Bool.Decides.{nat_tests}
 use Rattle.raft_base.specs.declared.log_id.LogIdOf.{LogIdOf}
 use Rattle.raft_members.specs.membership.Change.{last_config, union_of}
 use Rattle.raft_members.specs.quorum.Coherence.{has_config, next_configs}
-use Rattle.raft_members.specs.membership.Members.{MemberList, Members}
+use Rattle.raft_members.specs.membership.Members.{MemberList, Members, same_members}
 use Rattle.raft_members.proofs.lemmas.membership.ReplaceLemmas.{last_passes}
 use Rattle.raft_progress.specs.progress.Equal.{IsCloned}
 use Rattle.raft_progress.specs.progress.NewProgress.{HasClone}
@@ -23,9 +23,13 @@ use Rattle.raft_progress.specs.declared.progress.steps.Reply.TheVariants.{Grante
 use Rattle.raft_state.specs.membership_state.Apply.{IsApplyRefusal}
 use Rattle.raft_state.specs.membership_state.Memberships.{Memberships, in_effect}
 use Rattle.raft_state.specs.declared.raft_state.RaftStateIn.{RaftStateIn}
-use Rattle.raft_handlers.specs.Changes.{IsChangeRefusal}
+use Rattle.raft_state.specs.declared.entry.EntryOf.{EntryOf}
+use Rattle.raft_state.specs.declared.entry.payload.EntryPayload.{EntryPayload}
+use Rattle.raft_state.specs.declared.entry.payload.EntryPayload.TheVariants.{Membership}
+use Rattle.raft_handlers.specs.Changes.{AppendsMembers, IsChangeRefusal, RefusesMembers, StoresMembership}
+use Rattle.raft_handlers.specs.Compared.{Compared}
 use Rattle.raft_handlers.specs.Leadership.{Leadership}
-use Rattle.raft_handlers.specs.Proposals.{AppendsPayload}
+use Rattle.raft_handlers.specs.Proposals.{AppendsOwn, AppendsPayload}
 use Rattle.raft_handlers.specs.declared.leader.change.ChangeError.{ChangeError}
 use Rattle.raft_handlers.specs.declared.leader.change.ChangeError.TheVariants.{Change, Entry, NoOwnGranted, NotJoint}
 
@@ -87,6 +91,10 @@ module _ {K N V P : Type 0} (eq : K → K → Bool) (id_cmp : K → K → Orderi
         inherited IsClone same default v (value clone id) (value new id) _ (over.4.2.value id) (over.4.2.others id)
         (clone_values old clone cloned id ∙ known) some
 
+    -- the default is the one that was given
+    pub begins_part : new.progress.default_part ≡ part default
+    begins_part = let over = made.values.1 in over.4.2.default_part
+
     -- who is new has the default
     pub begins_value : (id : K) (v : V) → value old id ≡ None → value new id ≡ Some v → v ≡ default
     begins_value id v known some =
@@ -122,19 +130,39 @@ module _ {K : Type 0} {eq : K → K → Bool} (laws : IsEquivalence eq) where
       (option_map_or (λ last. last ∷ last_config (c ∷ cs) ∷ []) (slice_get (c ∷ cs) (length (c ∷ cs) - 1))
       (last_config (c ∷ cs) ∷ []))) (has_last c cs)
 
--- ---- refusals
+-- ---- the step out of a joint membership
 
-module _ {K N I L C : Type 0} (id_eq : K → K → Bool) (id_cmp : K → K → Ordering) (eq : C → C → Bool) (cmp : C → C → Ordering) where
+module _ {K N I L C : Type 0} (by : Compared K N L C) where
   -- a change that no joint membership has to be left for is refused for what any other is
-  pub refused_joint : (D : Type 0) (fits leads : Bool) (l : Leadership K N C) (s : RaftStateIn K N I L C)
-      (members next : Members K N) → members ≡ next
-      → (e : ChangeError C K) → IsChangeRefusal D id_eq id_cmp eq cmp true leads l s members e
-      → IsChangeRefusal D id_eq id_cmp eq cmp fits leads l s next e
-  refused_joint D fits leads l s members next is NoOwnGranted h = h
-  refused_joint D fits leads l s members next is NotJoint h = absurd (true≢false h)
-  refused_joint D fits leads l s members next is (Change e) h =
-      subst (λ (m : Members K N). IsApplyRefusal eq id_eq id_cmp s.membership_state m e) is h
-  refused_joint D fits leads l s members next is (Entry e) h = h
+  refused_joint : (D : Type 0) (fits : Bool) (members next : Members K N) (l : Leadership K N C) (s : RaftStateIn K N I L C)
+      → members ≡ next → (e : ChangeError C K) → IsChangeRefusal by D true members l s e → IsChangeRefusal by D fits next l s e
+  refused_joint D fits members next l s is NoOwnGranted h = h
+  refused_joint D fits members next l s is NotJoint h = absurd (true≢false h)
+  refused_joint D fits members next l s is (Change e) h =
+      subst (λ (m : Members K N). IsApplyRefusal by.eq by.id_eq by.id_cmp s.membership_state m e) is h
+  refused_joint D fits members next l s is (Entry e) h = h
+
+  module _ {D : Type 0} (members next : Members K N) (is : members ≡ next) (old new : Leadership K N C)
+      (before after : RaftStateIn K N I L C) where
+    -- what is proposed as a change is proposed as the step to the same members
+    pub appends_joint : (entry : EntryOf C K N D) → AppendsMembers by members old before new after entry
+        → AppendsMembers by next old before new after entry
+    appends_joint entry h = subst (λ (m : Members K N). AppendsMembers by m old before new after entry) is h
+
+    -- and what is refused is refused
+    pub refuses_joint : (fits : Bool) (e : ChangeError C K) → RefusesMembers by D true members old before new after e
+        → RefusesMembers by D fits next old before new after e
+    refuses_joint fits e h = record {
+      refused = refused_joint D fits members next old before is e h.refused;
+      err = h.err;
+      err_state = h.err_state;
+    }
+
+  -- an entry of the leader's own is appended with the payload that it has
+  pub own_payload : {D : Type 0} (l : Leadership K N C) (payload : EntryPayload K N D) (old new : RaftStateIn K N I L C)
+      (entry : EntryOf C K N D) → AppendsOwn by l payload old new entry → AppendsOwn by l entry.payload old new entry
+  own_payload {D = D} l payload old new entry h =
+      subst (λ (p : EntryPayload K N D). AppendsOwn by l p old new entry) (sym (ap (λ e. e.payload) h.is_next)) h
 
 -- ---- what the leader counts by
 
@@ -142,3 +170,12 @@ module _ {K N I L C : Type 0} (id_eq : K → K → Bool) (id_cmp : K → K → O
 pub effective_configs : {K N C : Type 0} (eq : K → K → Bool) (same : N → N → Bool) (id : LogIdOf C) (m : MemberList K N)
     (old new : Memberships C K N) → AppendsPayload eq same id (Some m) old new → (in_effect new).configs ≡ m.configs
 effective_configs eq same id m old new (stored, (at, alike, configs), is) = ap (λ w. (in_effect w).configs) is ∙ configs
+
+-- a payload with a copy of the members that the leader counts by stores them
+pub stores_copy : {K N D : Type 0} (eq : K → K → Bool) (same : N → N → Bool) (m members stored : MemberList K N)
+    (payload : EntryPayload K N D) → m ≡ members → payload ≡ Membership stored → stored.configs ≡ members.configs
+    → same_members eq same members stored ≡ true
+    → StoresMembership eq same m payload
+stores_copy {K = K} {N = N} {D = D} eq same m members stored payload is copy configs equal =
+    subst (λ (p : EntryPayload K N D). StoresMembership eq same m p) (sym copy)
+    (subst (λ (x : MemberList K N). StoresMembership {D = D} eq same x (Membership stored)) (sym is) (configs, equal))

@@ -1,12 +1,12 @@
 -- What a request to a member, and a response of it, make of what a leader knows of it.
-use Rattle.std.specs.Prelude.{◌≡◌, ℕ, Bool, true, Option, Some, None, Result, Ok, Err, IsOk, OnErr, refl, option_map}
+use Rattle.std.specs.Prelude.{◌≡◌, ℕ, Bool, true, false, if◌then◌else◌, Option, Some, None, Result, Ok, Err, IsOk, OnErr, refl, option_map}
 use Rattle.std.specs.Cmp.{IsEquivalence, IsTotalOrder}
 use Rattle.std.specs.declared.cmp.Ordering.{Ordering}
 use Rattle.std.proofs.Common.{ap, sym, subst, ◌∙◌}
 use Rattle.raft_base.specs.LogId.{id_le}
 use Rattle.raft_base.specs.LogView.{LogView}
 use Rattle.raft_base.specs.declared.log_id.LogIdOf.{LogIdOf}
-use Rattle.raft_progress.specs.entry.Request.{FollowsRequest, after_request}
+use Rattle.raft_progress.specs.entry.Request.{FollowsRequest, after_request, sent}
 use Rattle.raft_progress.specs.entry.EntryTable.{entry_after_conflict}
 use Rattle.raft_progress.specs.tracked.Followers.{Followers, IsAcknowledged, IsConflict, IsNextSend, IsResponse}
 use Rattle.raft_progress.specs.tracked.Followers.{member_value, with_member_value}
@@ -16,7 +16,7 @@ use Rattle.raft_progress.specs.declared.inflight.InflightOf.{InflightOf}
 use Rattle.raft_progress.specs.declared.inflight.InflightOf.TheVariants.{None as Idle}
 use Rattle.raft_progress.proofs.lemmas.tracked.FollowerLemmas.{member_writes, same_member}
 use Rattle.raft_handlers.specs.Leadership.{Leadership, WritesEntry, WritesMember}
-use Rattle.raft_handlers.specs.Responses.{after_outcome, refused}
+use Rattle.raft_handlers.specs.Responses.{after_outcome, as_refused}
 use Rattle.raft_handlers.specs.declared.error.HandlerError.{HandlerError}
 use Rattle.raft_handlers.specs.declared.error.HandlerError.TheVariants.{HigherVote}
 use Rattle.raft_handlers.specs.declared.message.Outcome.TheVariants.{Conflict, HigherVote as RefusedFor}
@@ -81,7 +81,7 @@ on_err (Err e) P Q f p = f p
 
 -- a conflict, with a request or without one
 pub conflict_table : {C : Type 0} (L : Type 0) (cmp : C → C → Ordering) (entry : ProgressEntryOf C) (request : Option ℕ) (index : ℕ)
-    → after_outcome {L = L} cmp entry request (Conflict index) ≡ refused (entry_after_conflict entry request index)
+    → after_outcome {L = L} cmp entry request (Conflict index) ≡ as_refused (entry_after_conflict entry request index)
 conflict_table L cmp entry (Some r) index = refl
 conflict_table L cmp entry None index = refl
 
@@ -93,12 +93,12 @@ vote_table cmp entry None vote = refl
 
 -- a response whose refusals are taken as a leader's
 pub refused_response : {V U S : Type 0} (value : Option V) (table : V → Result V InflightError) (table' : V → Result V HandlerError)
-    (Writes Writes' : V → Type 0) (old new : S) → ((entry : V) → table' entry ≡ refused (table entry))
+    (Writes Writes' : V → Type 0) (old new : S) → ((entry : V) → table' entry ≡ as_refused (table entry))
     → ((entry next : V) → value ≡ Some entry → Writes next → Writes' next) → (r : Option (Result U InflightError))
-    → IsResponse value table Writes old r new → IsResponse value table' Writes' old (option_map refused r) new
+    → IsResponse value table Writes old r new → IsResponse value table' Writes' old (option_map as_refused r) new
 refused_response value table table' Writes Writes' old new same w (Some (Ok u)) s =
-    (s.0, s.1, s.2, same s.0 ∙ ap refused s.3, w s.0 s.1 s.2 s.4)
-refused_response value table table' Writes Writes' old new same w (Some (Err e)) s = (s.0, s.1, same s.0 ∙ ap refused s.2, s.3)
+    (s.0, s.1, s.2, same s.0 ∙ ap as_refused s.3, w s.0 s.1 s.2 s.4)
+refused_response value table table' Writes Writes' old new same w (Some (Err e)) s = (s.0, s.1, same s.0 ∙ ap as_refused s.2, s.3)
 refused_response value table table' Writes Writes' old new same w None s = s
 
 -- an answer to a member that is known
@@ -155,7 +155,28 @@ module _ {K N C : Type 0} (eq : K → K → Bool) {cmp : C → C → Ordering} (
   conflict_rises request index (Some (Err e)) s = same_granted (λ i. (sym s.3 i).progress.granted)
   conflict_rises request index None s = same_granted (λ i. (sym s.1 i).progress.granted)
 
+  -- and neither changes the default
+  pub ack_default : (request : ℕ) (upto : Option (LogIdOf C)) (r : Option (Result (Unit {0}) InflightError))
+      → IsAcknowledged eq cmp old id request upto r new → new.progress.default_part ≡ old.progress.default_part
+  ack_default request upto (Some (Ok u)) s = s.4.values.3.default_part
+  ack_default request upto (Some (Err e)) s = λ i. (s.3 i).progress.default_part
+  ack_default request upto None s = λ i. (s.1 i).progress.default_part
+
+  pub conflict_default : (request : Option ℕ) (index : ℕ) (r : Option (Result (Unit {0}) InflightError))
+      → IsConflict eq cmp old id request index r new → new.progress.default_part ≡ old.progress.default_part
+  conflict_default request index (Some (Ok u)) s = λ i. (s.4 i).progress.default_part
+  conflict_default request index (Some (Err e)) s = λ i. (s.3 i).progress.default_part
+  conflict_default request index None s = λ i. (s.1 i).progress.default_part
+
 -- ---- requests, by their results
+
+-- what is put in flight is what an allowed send makes
+pub request_sent : {C : Type 0} (can : Bool) (table : Result (ProgressEntryOf C) (ProgressEntryOf C)) (next : ProgressEntryOf C)
+    → (let made : Option (ProgressEntryOf C) = (if can then sent table else None) in made) ≡ Some next
+    → (can ≡ true) × (table ≡ Ok next)
+request_sent true (Ok e) next h = let same : e ≡ next = cc in (refl, ap Ok same)
+request_sent true (Err e) next h = cc
+request_sent false table next h = cc
 
 module _ {K N C : Type 0} (eq : K → K → Bool) (cmp : C → C → Ordering) (old new : Followers K N C) (id : K) (log : LogView C)
     (max_entries : ℕ) where
@@ -198,3 +219,9 @@ module _ {K N C : Type 0} (eq : K → K → Bool) (cmp : C → C → Ordering) (
   pub next_none : (r : Option (InflightOf C)) → IsNextSend eq cmp old id log max_entries r new → r ≡ None → new ≡ old
   next_none (Some x) s none = cc
   next_none None s none = s.1
+
+  -- a request leaves the default
+  pub next_default : (r : Option (InflightOf C)) → IsNextSend eq cmp old id log max_entries r new
+      → new.progress.default_part ≡ old.progress.default_part
+  next_default (Some x) s = λ i. (s.4 i).progress.default_part
+  next_default None s = λ i. (s.1 i).progress.default_part

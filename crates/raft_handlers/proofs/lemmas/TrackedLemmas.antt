@@ -1,13 +1,14 @@
 -- What an update of a tracked progress writes, if the id is known and its part does not fall.
-use Rattle.std.specs.Prelude.{◌≡◌, Bool, true, false, Option, Some, None, refl}
+use Rattle.std.specs.Prelude.{◌≡◌, Bool, true, false, Option, Some, None, is_some, refl}
 use Rattle.std.specs.declared.cmp.Ordering.{Ordering}
 use Rattle.std.proofs.Common.{sym, subst, ◌∙◌, true≢false}
+use Rattle.raft_members.specs.quorum.Majority.{is_voter_of}
 use Rattle.raft_progress.specs.progress.NewProgress.{HasClone}
 use Rattle.raft_progress.specs.progress.ProgressState.{Writes}
 use Rattle.raft_progress.specs.progress.ProgressView.{state}
 use Rattle.raft_progress.specs.progress.Steps.{IsWritten, falls}
 use Rattle.raft_progress.specs.tracked.SingleSteps.{IsTrackedUpdate}
-use Rattle.raft_progress.specs.tracked.TrackedState.{TrackedView, has_quorum}
+use Rattle.raft_progress.specs.tracked.TrackedState.{IsReady, TrackedView, has_quorum}
 use Rattle.raft_progress.specs.tracked.TrackedNew.{BeginsOver}
 use Rattle.raft_progress.specs.declared.progress.steps.Reply.{Reply}
 use Rattle.raft_progress.specs.declared.progress.steps.Reply.TheVariants.{
@@ -82,3 +83,9 @@ module _ {K N V P : Type 0} (eq : K → K → Bool) (id_cmp : K → K → Orderi
       → (id : K) (v : V) → (state eq made.progress).value id ≡ Some v → IsClone default v
   begins_with_default default made b id v known =
       by_membership IsClone default ((state eq made.progress).value id) v _ (b.begins.values.value id) (b.begins.values.others id) known
+
+module _ {K N V P : Type 0} (eq : K → K → Bool) (id_cmp : K → K → Ordering) (cmp : P → P → Ordering) (part : V → P) where
+  -- each voter of the membership has a value
+  pub voter_known : (t : TrackedView K N V P) → IsReady eq id_cmp cmp part t → (id : K)
+      → is_voter_of eq t.membership.configs id ≡ true → is_some ((state eq t.progress).value id) ≡ true
+  voter_known t ready id votes = ready.counts_by.known id ∙ rw votes refl

@@ -1,7 +1,7 @@
 -- What a vote that is counted changes.
 use Rattle.std.specs.Prelude.{◌≡◌, Bool, true, false, ◌&&◌, ◌||◌, cond, Option, Some, None, is_some, refl}
 use Rattle.std.specs.Cmp.{IsEquivalence}
-use Rattle.std.specs.Option.{option_map_or}
+use Rattle.std.specs.Option.{option_eq, option_map_or}
 use Rattle.std.specs.Ordering.{bool_cmp, is_lt}
 use Rattle.std.proofs.Common.{ap, sym, ◌∙◌, true≢false}
 use Rattle.std.proofs.Math.Bool.{and-false, and-true, or-false, or-true}
@@ -89,3 +89,17 @@ module _ {K N : Type 0} (eq : K → K → Bool) where
       counts old new id reply u x
       ∙ ap (λ b. b || (eq id x && known old id)) (none_voted ((state eq old.progress).value x) (none x))
       ∙ ap (λ b. eq id x && b) (sym (stays_known laws old new id reply u))
+
+-- ---- the vote of a leader
+
+all_three : (a b c : Bool) → a ≡ true → b ≡ true → c ≡ true → (a && b && c) ≡ true
+all_three a b c ha hb hc = rw (ha, hb, hc) refl
+
+-- a node leads by a committed vote for it, whose committed leader id is its own
+pub leads_alike : {K L C : Type 0} (id_eq : K → K → Bool) (eq : C → C → Bool) → IsEquivalence eq → (votes_for : L → Option K)
+    (committed : L → C) (is : Bool) (leader : L) (own : C) (id : K) → is ≡ true → own ≡ committed leader
+    → option_eq id_eq (votes_for leader) (Some id) ≡ true
+    → (is && eq (committed leader) own && option_eq id_eq (votes_for leader) (Some id)) ≡ true
+leads_alike id_eq eq laws votes_for committed is leader own id granted same for_it =
+    all_three is (eq (committed leader) own) (option_eq id_eq (votes_for leader) (Some id)) granted
+    (ap (λ c. eq (committed leader) c) same ∙ laws.refl (committed leader)) for_it

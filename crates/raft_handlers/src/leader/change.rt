@@ -1,23 +1,14 @@
 //! How a leader changes the membership.
-ghost use Rattle.std.specs.Prelude.{◌≡◌, ◌<◌, ◌∷◌, ◌&&◌, [], true, nat_lt, None, Some, IfErr, IfOk, IfSome, IsOk, IsSome, IsTrue, OnErr, OnOk, is_some, length};
+ghost use Rattle.std.specs.Prelude.{◌≡◌, ◌<◌, ◌∷◌, [], None, true, nat_lt, IfErr, IfOk, IsOk, OnOk, length};
 ghost use Rattle.std.specs.Set.{ClonesAreEqual};
 ghost use Rattle.raft_base.specs.LogId.{next_index};
-ghost use Rattle.raft_handlers.specs.Changes.{IsChangeRefusal, KeepsEntries, StoresMembership};
+ghost use Rattle.raft_handlers.specs.Changes.{AppendsMembers, RefusesMembers, members_after_leave};
+ghost use Rattle.raft_handlers.specs.Compared.{compared};
 ghost use Rattle.raft_handlers.specs.Entries.{IsFullLogRefusal};
-ghost use Rattle.raft_handlers.specs.Leadership.{QuorumsHave, granted_by, is_of_leader, leads};
-ghost use Rattle.raft_handlers.specs.Proposals.{AppendsPayload, log_with_own, next_own_id};
-ghost use Rattle.raft_members.specs.membership.Change.{last_config, next_members};
-ghost use Rattle.raft_members.specs.quorum.Coherence.{is_coherent};
-ghost use Rattle.raft_members.specs.membership.Members.{HasMembers, members_of};
-ghost use Rattle.raft_members.specs.membership.Valid.{IsValid};
-ghost use Rattle.raft_state.specs.membership_state.Apply.{in_progress, members_after_change};
-ghost use Rattle.raft_state.specs.entry.Entry.{payload_membership};
-ghost use Rattle.raft_state.specs.log_id_list.FullLog.{end_index, full_log, same_log};
-ghost use Rattle.raft_state.specs.Accepted.{after_accept};
+ghost use Rattle.raft_members.specs.membership.Change.{last_config};
+ghost use Rattle.raft_state.specs.membership_state.Apply.{members_after_change};
 ghost use Rattle.raft_state.specs.membership_state.Memberships.{in_effect};
-ghost use Rattle.raft_state.specs.raft_state.Install.{may_accept};
 ghost use Rattle.raft_state.specs.raft_state.Sound.{IsSound};
-ghost use Rattle.raft_state.specs.raft_state.VoteAndLog.{vote_of};
 
 use super::Leader;
 use crate::error::HandlerError;
@@ -68,58 +59,12 @@ impl<NID: NodeId, N: Node, C: Ord + Copy + Default + Debug + Drop + 'static> Lea
         retain: bool,
     ) -> Result<EntryOf<C, NID, N, D>, ChangeError<C, NID>>
         requires clones_are_equal { ClonesAreEqual N.eq N.is_clone }
-
-        // What has to be so before a change.
-        ensures own_granted { IsOk result →
-            IsTrue (is_of_leader C.eq self.old.leader_id (granted_by self.old)) }
-        ensures committed { IsOk result → in_progress C.eq state.old.membership_state ≡ None }
-        ensures leads { IsOk result →
-            IsTrue (leads NID.eq C.eq L.committed L.voted self.old state.old) }
-
-        // The new membership, by which the leader counts.
-        ensures valid { OnOk result (IsValid NID.eq
-            (members_of NID.cmp self.new.followers.membership)) }
-        ensures changed { OnOk result (HasMembers N.eq NID.cmp self.new.followers.membership
-            (members_after_change NID.eq NID.cmp state.old.membership_state change retain)) }
-        ensures coherent { OnOk result
-            (0 < length (in_effect state.old.membership_state).configs →
-            is_coherent NID.eq (in_effect state.old.membership_state).configs
-            self.new.followers.membership.configs ≡ true) }
-        ensures kept { OnOk result (KeepsEntries NID.eq
-            (end_index (full_log state.old.log_ids)) self.old self.new) }
-        ensures still_known { OnOk result (0 < length self.old.followers.membership.configs →
-            self.old.followers.membership.configs
-            ≡ (in_effect state.old.membership_state).configs →
-            QuorumsHave NID.eq C.cmp self.new (granted_by self.old)) }
-        ensures counted { OnOk result (self.new.followers.membership.configs
-            ≡ (in_effect state.new.membership_state).configs) }
-        ensures node { self.new ≡ record self.old { followers = self.new.followers } }
-
-        // The entry, and the state with it.
-        ensures log_id { IfOk result (λ entry.
-            entry.log_id ≡ next_own_id self.old.leader_id state.old) }
-        ensures stores { IfOk result (λ entry.
-            StoresMembership NID.eq N.eq self.new.followers.membership entry.payload) }
-        ensures effective { IfOk result (λ entry. AppendsPayload NID.eq N.eq entry.log_id
-            (payload_membership entry.payload) state.old.membership_state
-            state.new.membership_state) }
-        ensures log { OnOk result (IsTrue (same_log C.eq (full_log state.new.log_ids)
-            (log_with_own self.old.leader_id state.old))) }
-        ensures accepted { OnOk result (state.new.accepted ≡ after_accept L.eq C.cmp
-            state.old.accepted (vote_of state.old).leader_id
-            (Some (next_own_id self.old.leader_id state.old))) }
-        ensures rest { OnOk result (state.new ≡ record state.old {
-          log_ids = state.new.log_ids;
-          membership_state = state.new.membership_state;
-          accepted = state.new.accepted;
-        }) }
-        ensures refused { IfErr result (IsChangeRefusal D NID.eq NID.cmp C.eq C.cmp true
-            (leads NID.eq C.eq L.committed L.voted self.old state.old
-            && may_accept L.order state.old)
-            self.old state.old
-            (members_after_change NID.eq NID.cmp state.old.membership_state change retain)) }
-        ensures err { OnErr result (self.new ≡ self.old) }
-        ensures err_state { OnErr result (state.new ≡ state.old) }
+        ensures appended { let by = compared NID.Ord N.eq L.LeaderIdentity C.Ord in
+            let next = members_after_change NID.eq NID.cmp state.old.membership_state change retain in
+            IfOk result (AppendsMembers by next self.old state.old self.new state.new) }
+        ensures refused { let by = compared NID.Ord N.eq L.LeaderIdentity C.Ord in
+            let next = members_after_change NID.eq NID.cmp state.old.membership_state change retain in
+            IfErr result (RefusesMembers by D true next self.old state.old self.new state.new) }
         ensures sound { IsSound C.eq C.cmp state.old → IsSound C.eq C.cmp state.new }
     {
         // Called for the proof alone: each quorum of what a change leads to knows what is granted.
@@ -158,63 +103,17 @@ impl<NID: NodeId, N: Node, C: Ord + Copy + Default + Debug + Drop + 'static> Lea
         retain: bool,
     ) -> Result<EntryOf<C, NID, N, D>, ChangeError<C, NID>>
         requires clones_are_equal { ClonesAreEqual N.eq N.is_clone }
-
-        // What has to be so before the step.
         ensures joint { IsOk result →
             1 < length (in_effect state.old.membership_state).configs }
-        ensures own_granted { IsOk result →
-            IsTrue (is_of_leader C.eq self.old.leader_id (granted_by self.old)) }
-        ensures committed { IsOk result → in_progress C.eq state.old.membership_state ≡ None }
-        ensures leads { IsOk result →
-            IsTrue (leads NID.eq C.eq L.committed L.voted self.old state.old) }
-
-        // The last config alone, by which the leader counts.
         ensures goal { OnOk result (self.new.followers.membership.configs
             ≡ last_config (in_effect state.old.membership_state).configs ∷ []) }
-        ensures valid { OnOk result (IsValid NID.eq
-            (members_of NID.cmp self.new.followers.membership)) }
-        ensures changed { OnOk result (HasMembers N.eq NID.cmp self.new.followers.membership
-            (next_members NID.eq (members_of NID.cmp (in_effect state.old.membership_state))
-            (last_config (in_effect state.old.membership_state).configs) retain)) }
-        ensures coherent { OnOk result
-            (is_coherent NID.eq (in_effect state.old.membership_state).configs
-            self.new.followers.membership.configs ≡ true) }
-        ensures kept { OnOk result (KeepsEntries NID.eq
-            (end_index (full_log state.old.log_ids)) self.old self.new) }
-        ensures still_known { OnOk result (self.old.followers.membership.configs
-            ≡ (in_effect state.old.membership_state).configs →
-            QuorumsHave NID.eq C.cmp self.new (granted_by self.old)) }
-        ensures counted { OnOk result (self.new.followers.membership.configs
-            ≡ (in_effect state.new.membership_state).configs) }
-        ensures node { self.new ≡ record self.old { followers = self.new.followers } }
-
-        // The entry, and the state with it.
-        ensures log_id { IfOk result (λ entry.
-            entry.log_id ≡ next_own_id self.old.leader_id state.old) }
-        ensures stores { IfOk result (λ entry.
-            StoresMembership NID.eq N.eq self.new.followers.membership entry.payload) }
-        ensures effective { IfOk result (λ entry. AppendsPayload NID.eq N.eq entry.log_id
-            (payload_membership entry.payload) state.old.membership_state
-            state.new.membership_state) }
-        ensures log { OnOk result (IsTrue (same_log C.eq (full_log state.new.log_ids)
-            (log_with_own self.old.leader_id state.old))) }
-        ensures accepted { OnOk result (state.new.accepted ≡ after_accept L.eq C.cmp
-            state.old.accepted (vote_of state.old).leader_id
-            (Some (next_own_id self.old.leader_id state.old))) }
-        ensures rest { OnOk result (state.new ≡ record state.old {
-          log_ids = state.new.log_ids;
-          membership_state = state.new.membership_state;
-          accepted = state.new.accepted;
-        }) }
-        ensures refused { IfErr result (IsChangeRefusal D NID.eq NID.cmp C.eq C.cmp
-            (nat_lt 1 (length (in_effect state.old.membership_state).configs))
-            (leads NID.eq C.eq L.committed L.voted self.old state.old
-            && may_accept L.order state.old)
-            self.old state.old (next_members NID.eq
-            (members_of NID.cmp (in_effect state.old.membership_state))
-            (last_config (in_effect state.old.membership_state).configs) retain)) }
-        ensures err { OnErr result (self.new ≡ self.old) }
-        ensures err_state { OnErr result (state.new ≡ state.old) }
+        ensures appended { let by = compared NID.Ord N.eq L.LeaderIdentity C.Ord in
+            let next = members_after_leave NID.eq NID.cmp state.old.membership_state retain in
+            IfOk result (AppendsMembers by next self.old state.old self.new state.new) }
+        ensures refused { let by = compared NID.Ord N.eq L.LeaderIdentity C.Ord in
+            let next = members_after_leave NID.eq NID.cmp state.old.membership_state retain in
+            let joint = nat_lt 1 (length (in_effect state.old.membership_state).configs) in
+            IfErr result (RefusesMembers by D joint next self.old state.old self.new state.new) }
         ensures sound { IsSound C.eq C.cmp state.old → IsSound C.eq C.cmp state.new }
     {
         let members = state.membership_state.effective().membership();
@@ -244,6 +143,7 @@ impl<NID: NodeId, N: Node, C: Ord + Copy + Drop> Leader<NID, N, C> {
         ensures members { IfOk result (λ made. (tracked_view made).membership ≡ members) }
         ensures kept { IfOk result (λ made. KeepsValues NID.eq (next_index last)
             self.now.followers (tracked_view made)) }
+        ensures default { IfOk result (λ made. (tracked_view made).progress.default_part ≡ None) }
         ensures refused { IfErr result (IsFullLogRefusal (next_index last)) }
         ensures ready { IfOk result (λ made. IsReady NID.eq NID.cmp (option_cmp (log_id_cmp C.cmp))
             (λ entry. entry.matching) (tracked_view made)) }

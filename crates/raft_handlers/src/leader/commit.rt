@@ -1,32 +1,33 @@
 //! What a leader commits.
-ghost use Rattle.std.specs.Prelude.{◌≡◌, ◌<◌, ◌&&◌, false, IfErr, IfOk, IsTrue, OnErr, if◌then◌else◌, length};
-ghost use Rattle.raft_base.specs.LogId.{id_le, id_lt};
-ghost use Rattle.raft_handlers.specs.Leadership.{ChangedQuorumsHave, IsCommitRefusal, QuorumsHave, granted_by, is_of_leader};
-ghost use Rattle.raft_state.specs.raft_state.Commit.{state_after_commit};
+ghost use Rattle.std.specs.Prelude.{◌≡◌, ◌<◌, IfErr, IfOk, IsTrue, length};
+ghost use Rattle.raft_base.specs.LogId.{id_le};
+ghost use Rattle.raft_handlers.specs.Leadership.{ChangedQuorumsHave, Commits, IsGreatestMatch, QuorumsHave, RefusesCommit, granted_by, is_of_leader};
 ghost use Rattle.raft_state.specs.raft_state.Sound.{IsSound};
-ghost use Rattle.raft_state.specs.raft_state.VoteAndLog.{log_view_of};
-ghost use Rattle.raft_state.specs.raft_state.Valid.{none_or_logged};
 
 use super::Leader;
 use crate::error::HandlerError;
 use raft_base::{Instant, LogIdOf, Node, NodeId, log_id_below};
-use raft_progress::Progress;
-use raft_progress::laws::quorums_know_granted;
+use raft_members::membership::Configs;
+use raft_progress::laws::{granted_is_threshold, quorums_know_granted};
+use raft_progress::{Progress, ProgressEntryOf};
 use raft_state::RaftStateIn;
 
 impl<NID: NodeId, N: Node, C: Ord + Copy + Drop> Leader<NID, N, C> {
-    /// Returns the last log id that a quorum of the membership has.
+    /// Returns the last log id that a quorum of the membership has: the greatest one that a majority
+    /// of each config matches.
     ///
     /// Each quorum of the membership, and of what one change makes of it, has a voter whose match
     /// is at least that.
     pub fn granted(&self) -> Option<LogIdOf<C>>
         ensures granted { result ≡ granted_by self.now }
+        ensures greatest { IsGreatestMatch NID.eq C.cmp self.now result }
         ensures quorums { 0 < length self.now.followers.membership.configs →
             QuorumsHave NID.eq C.cmp self.now result }
         ensures changed_quorums { 0 < length self.now.followers.membership.configs →
             ChangedQuorumsHave NID.eq C.cmp NID.cmp self.now result }
     {
         quorums_know_granted(&self.followers);
+        granted_is_threshold::<NID, ProgressEntryOf<C>, Option<LogIdOf<C>>, Configs<NID>>();
         *self.followers.progress().granted()
     }
 
@@ -50,22 +51,9 @@ impl<NID: NodeId, N: Node, C: Ord + Copy + Drop> Leader<NID, N, C> {
         &self,
         state: &mut RaftStateIn<NID, N, I, L, C>,
     ) -> Result<bool, HandlerError>
-        ensures answer { IfOk result (λ more. more
-            ≡ (is_of_leader C.eq self.now.leader_id (granted_by self.now)
-            && id_lt C.cmp state.old.committed (granted_by self.now))) }
-        ensures committed { IfOk result (λ more. state.new ≡ (if more
-            then state_after_commit C.cmp (granted_by self.now) state.old else state.old)) }
-        ensures is_granted { IfOk result (λ more. IsTrue more →
-            state.new.committed ≡ granted_by self.now) }
-        ensures logged { IfOk result (λ more. IsTrue more →
-            IsTrue (none_or_logged C.eq (log_view_of state.old) (granted_by self.now))) }
+        ensures committed { IfOk result (Commits NID.eq C.Ord self.now state.old state.new) }
         ensures monotone { IsTrue (id_le C.cmp state.old.committed state.new.committed) }
-        ensures refused { IfErr result
-            (IsCommitRefusal C.eq C.cmp (granted_by self.now) state.old) }
-        ensures due { OnErr result (IsTrue
-            (is_of_leader C.eq self.now.leader_id (granted_by self.now)
-            && id_lt C.cmp state.old.committed (granted_by self.now))) }
-        ensures err { OnErr result (state.new ≡ state.old) }
+        ensures refused { IfErr result (RefusesCommit C.Ord self.now state.old state.new) }
         ensures sound { IsSound C.eq C.cmp state.old → IsSound C.eq C.cmp state.new }
     {
         let granted = self.granted();

@@ -1,14 +1,12 @@
 //! What a leader sends to the members, and what it learns from their responses.
-ghost use Rattle.std.specs.Prelude.{◌≡◌, false, None, Some, Ok, Err, IfErr, IsOk, IsTrue, OnErr, OnOk};
+ghost use Rattle.std.specs.Prelude.{◌≡◌, false, None, Some, IfErr, IsOk, IsTrue, OnErr, OnOk};
+ghost use Rattle.std.specs.Option.{option_map};
 ghost use Rattle.raft_base.specs.LogId.{id_le};
-ghost use Rattle.raft_handlers.specs.Leadership.{IsFlushRefusal, WritesEntry, WritesMember, entry_of, flushed_entry, granted_by};
-ghost use Rattle.raft_handlers.specs.Responses.{after_response, answers, refused};
-ghost use Rattle.raft_progress.specs.entry.Request.{after_request};
+ghost use Rattle.raft_handlers.specs.Compared.{compared};
+ghost use Rattle.raft_handlers.specs.Leadership.{IsFlushRefusal, WritesEntry, WritesMember, entry_of, flushed_entry, granted_by, is_leading};
+ghost use Rattle.raft_handlers.specs.Responses.{SendsNext, TakesResponse, after_response, as_refused};
 ghost use Rattle.raft_progress.specs.tracked.Followers.{IsResponse, member_value};
 ghost use Rattle.raft_progress.specs.tracked.Tracked.{tracked_view};
-ghost use Rattle.std.specs.Option.{option_map};
-ghost use Rattle.raft_handlers.specs.declared.error.HandlerError.{HandlerError};
-ghost use Rattle.raft_handlers.specs.declared.error.HandlerError.TheVariants.{ForeignResponse, UnknownMember};
 ghost use Rattle.raft_progress.specs.declared.entry.ProgressEntryOf.{ProgressEntryOf};
 ghost use Rattle.raft_progress.specs.declared.inflight.InflightOf.TheVariants.{None as Idle};
 ghost use Rattle.raft_state.specs.raft_state.VoteAndLog.{log_view_of};
@@ -17,9 +15,11 @@ ghost use Rattle.raft_state.specs.raft_state.Valid.{none_or_logged};
 use super::Leader;
 use crate::error::HandlerError;
 use crate::message::{Outcome, Response};
-use raft_base::{Instant, LogIdOf, LogIdOptionExt, Node, NodeId};
+use crate::state::State;
+use raft_base::{Instant, LeaderIdentity, LogIdOf, LogIdOptionExt, Node, NodeId};
 use raft_progress::{InflightError, InflightOf, Progress, ProgressEntryOf, Tracked};
 use raft_state::RaftStateIn;
+use raft_state::laws::sends_from_log;
 
 impl<NID: NodeId, N: Node, C: Ord + Copy + Drop> Leader<NID, N, C> {
     /// Returns what to send to a member next, and puts it in flight: entries, or the snapshot.
@@ -33,25 +33,11 @@ impl<NID: NodeId, N: Node, C: Ord + Copy + Drop> Leader<NID, N, C> {
         to: &NID,
         max_entries: u64,
     ) -> Option<InflightOf<C>>
-        ensures unknown { entry_of NID.eq self.old to.now ≡ None → result ≡ None }
-        ensures sent { (entry next : ProgressEntryOf C) →
-            entry_of NID.eq self.old to.now ≡ Some entry →
-            after_request C.cmp entry (log_view_of state.now) max_entries ≡ Some next →
-            result ≡ Some next.inflight }
-        ensures in_flight { (entry next : ProgressEntryOf C) →
-            entry_of NID.eq self.old to.now ≡ Some entry →
-            after_request C.cmp entry (log_view_of state.now) max_entries ≡ Some next →
-            WritesEntry NID.eq self.old to.now next self.new }
-        ensures heartbeat { (entry : ProgressEntryOf C) →
-            entry_of NID.eq self.old to.now ≡ Some entry →
-            after_request C.cmp entry (log_view_of state.now) max_entries ≡ None →
-            result ≡ Some Idle }
-        ensures unchanged { result ≡ None → self.new ≡ self.old }
-        ensures unchanged_by_heartbeat { (entry : ProgressEntryOf C) →
-            entry_of NID.eq self.old to.now ≡ Some entry →
-            after_request C.cmp entry (log_view_of state.now) max_entries ≡ None →
-            self.new ≡ self.old }
+        ensures { SendsNext NID.eq C.Ord to.now (log_view_of state.now) max_entries
+            self.old self.new result }
     {
+        // Called for the proof alone: what is sent is from the log.
+        sends_from_log::<C>();
         self.followers.next_send(to, state, max_entries)
     }
 
@@ -67,24 +53,7 @@ impl<NID: NodeId, N: Node, C: Ord + Copy + Drop> Leader<NID, N, C> {
         from: &NID,
         response: &Response<L, C>,
     ) -> Result<(), HandlerError>
-        ensures foreign { answers C.eq response.now self.old ≡ false →
-            result ≡ Err ForeignResponse }
-        ensures unknown { IsTrue (answers C.eq response.now self.old) →
-            entry_of NID.eq self.old from.now ≡ None → result ≡ Err UnknownMember }
-        ensures taken { (entry next : ProgressEntryOf C) →
-            IsTrue (answers C.eq response.now self.old) →
-            entry_of NID.eq self.old from.now ≡ Some entry →
-            after_response C.cmp entry response.now ≡ Ok next →
-            WritesEntry NID.eq self.old from.now next self.new }
-        ensures ok { (entry next : ProgressEntryOf C) →
-            IsTrue (answers C.eq response.now self.old) →
-            entry_of NID.eq self.old from.now ≡ Some entry →
-            after_response C.cmp entry response.now ≡ Ok next → IsOk result }
-        ensures refused { (entry : ProgressEntryOf C) (e : HandlerError) →
-            IsTrue (answers C.eq response.now self.old) →
-            entry_of NID.eq self.old from.now ≡ Some entry →
-            after_response C.cmp entry response.now ≡ Err e → result ≡ Err e }
-        ensures err { OnErr result (self.new ≡ self.old) }
+        ensures takes { TakesResponse NID.eq C.Ord from.now response.now self.old self.new result }
         ensures monotone { IsTrue
             (id_le C.cmp (granted_by self.old) (granted_by self.new)) }
     {
@@ -110,14 +79,23 @@ impl<NID: NodeId, N: Node, C: Ord + Copy + Drop> Leader<NID, N, C> {
             let _reply = self.followers.update(to, entry);
         }
     }
+}
 
+impl<NID: NodeId, N: Node, C: Ord + Copy + Default + Drop + 'static> Leader<NID, N, C> {
     /// Counts the leader itself like any voter, once its log is on disk up to a log id. Less than
     /// was on disk before changes nothing.
-    pub fn handle_flushed<I: Instant, L: Drop>(
+    ///
+    /// The state's vote must still be the committed vote for this leader. Otherwise the node may
+    /// have followed another leader since, and its log may have entries of that leader in place of
+    /// its own.
+    pub fn handle_flushed<I: Instant, L: LeaderIdentity<Id = NID, Committed = C> + Drop>(
         &mut self,
-        state: &RaftStateIn<NID, N, I, L, C>,
+        state: &State<NID, N, I, L>,
         upto: Option<LogIdOf<C>>,
     ) -> Result<(), HandlerError>
+        ensures leads { let by = compared NID.Ord N.eq L.LeaderIdentity C.Ord in
+            IsOk result → IsTrue (is_leading by self.old state.now) }
+        ensures logged { OnOk result (IsTrue (none_or_logged C.eq (log_view_of state.now) upto)) }
         ensures counted { OnOk result ((entry : ProgressEntryOf C) →
             entry_of NID.eq self.old self.old.id ≡ Some entry →
             IsTrue (id_le C.cmp entry.matching upto) →
@@ -129,12 +107,15 @@ impl<NID: NodeId, N: Node, C: Ord + Copy + Drop> Leader<NID, N, C> {
             entry_of NID.eq self.new x ≡ entry_of NID.eq self.old x }
         ensures members { self.new.followers.membership ≡ self.old.followers.membership }
         ensures node { self.new ≡ record self.old { followers = self.new.followers } }
-        ensures logged { OnOk result (IsTrue (none_or_logged C.eq (log_view_of state.now) upto)) }
-        ensures refused { IfErr result (IsFlushRefusal C.eq upto state.now) }
+        ensures refused { let by = compared NID.Ord N.eq L.LeaderIdentity C.Ord in
+            IfErr result (IsFlushRefusal by self.old upto state.now) }
         ensures err { OnErr result (self.new ≡ self.old) }
         ensures monotone { IsTrue
             (id_le C.cmp (granted_by self.old) (granted_by self.new)) }
     {
+        if !self.leads(state) {
+            return Err(HandlerError::NotLeader);
+        }
         if !upto.has_next_index() {
             return Err(HandlerError::NoNextIndex);
         }
@@ -159,6 +140,8 @@ fn take_response<NID: NodeId, N: Node, L, C: Ord + Copy>(
         (λ next. WritesMember NID.eq (tracked_view followers.old) from.now next
         (tracked_view followers.new))
         (tracked_view followers.old) result (tracked_view followers.new) }
+    ensures default { (tracked_view followers.new).progress.default_part
+        ≡ (tracked_view followers.old).progress.default_part }
     ensures monotone { IsTrue (id_le C.cmp (tracked_view followers.old).progress.granted
         (tracked_view followers.new).progress.granted) }
 {
@@ -191,7 +174,7 @@ fn if_known<NID: NodeId, N: Node, C: Ord + Copy>(
 /// The refusal of what is in flight as one of the leader.
 #[inline(always)]
 fn refuse(taken: Option<Result<(), InflightError>>) -> Option<Result<(), HandlerError>>
-    ensures { result ≡ option_map refused taken }
+    ensures { result ≡ option_map as_refused taken }
 {
     match taken {
         Some(Ok(())) => Some(Ok(())),

@@ -1,14 +1,10 @@
 //! How a leader appends entries of its own.
-ghost use Rattle.std.specs.Prelude.{◌≡◌, ◌&&◌, None, Some, IfErr, IfOk, IsOk, IsTrue, OnErr, OnOk};
+ghost use Rattle.std.specs.Prelude.{◌≡◌, IfErr, IfOk};
 ghost use Rattle.std.specs.Set.{ClonesAreEqual};
-ghost use Rattle.raft_handlers.specs.Leadership.{leads};
-ghost use Rattle.raft_handlers.specs.Proposals.{AppendsPayload, IsProposalRefusal, log_with_own, next_own_id};
-ghost use Rattle.raft_state.specs.Accepted.{after_accept};
-ghost use Rattle.raft_state.specs.entry.Entry.{payload_membership};
-ghost use Rattle.raft_state.specs.log_id_list.FullLog.{full_log, same_log};
-ghost use Rattle.raft_state.specs.raft_state.Install.{may_accept};
+ghost use Rattle.raft_handlers.specs.Compared.{compared};
+ghost use Rattle.raft_handlers.specs.Leadership.{is_leading};
+ghost use Rattle.raft_handlers.specs.Proposals.{AppendsOwn, RefusesOwn};
 ghost use Rattle.raft_state.specs.raft_state.Sound.{IsSound};
-ghost use Rattle.raft_state.specs.raft_state.VoteAndLog.{vote_of};
 ghost use Rattle.raft_state.specs.declared.entry.payload.EntryPayload.TheVariants.{Blank, Normal};
 
 use super::Leader;
@@ -23,7 +19,8 @@ impl<NID: NodeId, N: Node, C: Ord + Copy + Default + Drop + 'static> Leader<NID,
         &self,
         state: &State<NID, N, I, L>,
     ) -> bool
-        ensures { result ≡ leads NID.eq C.eq L.committed L.voted self.now state.now }
+        ensures { let by = compared NID.Ord N.eq L.LeaderIdentity C.Ord in
+            result ≡ is_leading by self.now state.now }
     {
         let vote = state.vote_ref();
         vote.is_committed()
@@ -41,27 +38,10 @@ impl<NID: NodeId, N: Node, C: Ord + Copy + Default + Drop + 'static> Leader<NID,
         state: &mut State<NID, N, I, L>,
     ) -> Result<EntryOf<C, NID, N, D>, HandlerError>
         requires clones_are_equal { ClonesAreEqual N.eq N.is_clone }
-        ensures entry { IfOk result (λ entry. entry ≡ record {
-          log_id = next_own_id self.now.leader_id state.old;
-          payload = Blank;
-        }) }
-        ensures leads { IsOk result →
-            IsTrue (leads NID.eq C.eq L.committed L.voted self.now state.old) }
-        ensures log { OnOk result (IsTrue (same_log C.eq (full_log state.new.log_ids)
-            (log_with_own self.now.leader_id state.old))) }
-        ensures accepted { OnOk result (state.new.accepted ≡ after_accept L.eq C.cmp
-            state.old.accepted (vote_of state.old).leader_id
-            (Some (next_own_id self.now.leader_id state.old))) }
-        ensures rest { OnOk result (state.new ≡ record state.old {
-          log_ids = state.new.log_ids;
-          accepted = state.new.accepted;
-        }) }
-        ensures refused { IfErr result (IsProposalRefusal {D = D} C.cmp
-            (leads NID.eq C.eq L.committed L.voted self.now state.old
-            && may_accept L.order state.old)
-            (record { log_id = next_own_id self.now.leader_id state.old; payload = Blank })
-            state.old) }
-        ensures err { OnErr result (state.new ≡ state.old) }
+        ensures appended { let by = compared NID.Ord N.eq L.LeaderIdentity C.Ord in
+            IfOk result (AppendsOwn by self.now Blank state.old state.new) }
+        ensures refused { let by = compared NID.Ord N.eq L.LeaderIdentity C.Ord in
+            IfErr result (RefusesOwn by {D = D} self.now Blank state.old state.new) }
         ensures sound { IsSound C.eq C.cmp state.old → IsSound C.eq C.cmp state.new }
     {
         self.append_own(state, EntryPayload::Blank)
@@ -77,27 +57,10 @@ impl<NID: NodeId, N: Node, C: Ord + Copy + Default + Drop + 'static> Leader<NID,
         data: D,
     ) -> Result<EntryOf<C, NID, N, D>, HandlerError>
         requires clones_are_equal { ClonesAreEqual N.eq N.is_clone }
-        ensures entry { IfOk result (λ entry. entry ≡ record {
-          log_id = next_own_id self.now.leader_id state.old;
-          payload = Normal «data»;
-        }) }
-        ensures leads { IsOk result →
-            IsTrue (leads NID.eq C.eq L.committed L.voted self.now state.old) }
-        ensures log { OnOk result (IsTrue (same_log C.eq (full_log state.new.log_ids)
-            (log_with_own self.now.leader_id state.old))) }
-        ensures accepted { OnOk result (state.new.accepted ≡ after_accept L.eq C.cmp
-            state.old.accepted (vote_of state.old).leader_id
-            (Some (next_own_id self.now.leader_id state.old))) }
-        ensures rest { OnOk result (state.new ≡ record state.old {
-          log_ids = state.new.log_ids;
-          accepted = state.new.accepted;
-        }) }
-        ensures refused { IfErr result (IsProposalRefusal C.cmp
-            (leads NID.eq C.eq L.committed L.voted self.now state.old
-            && may_accept L.order state.old)
-            (record { log_id = next_own_id self.now.leader_id state.old; payload = Normal «data» })
-            state.old) }
-        ensures err { OnErr result (state.new ≡ state.old) }
+        ensures appended { let by = compared NID.Ord N.eq L.LeaderIdentity C.Ord in
+            IfOk result (AppendsOwn by self.now (Normal «data») state.old state.new) }
+        ensures refused { let by = compared NID.Ord N.eq L.LeaderIdentity C.Ord in
+            IfErr result (RefusesOwn by self.now (Normal «data») state.old state.new) }
         ensures sound { IsSound C.eq C.cmp state.old → IsSound C.eq C.cmp state.new }
     {
         self.append_own(state, EntryPayload::Normal(data))
@@ -115,31 +78,10 @@ impl<NID: NodeId, N: Node, C: Ord + Copy + Default + Drop + 'static> Leader<NID,
         payload: EntryPayload<NID, N, D>,
     ) -> Result<EntryOf<C, NID, N, D>, HandlerError>
         requires clones_are_equal { ClonesAreEqual N.eq N.is_clone }
-        ensures entry { IfOk result (λ entry. entry ≡ record {
-          log_id = next_own_id self.now.leader_id state.old;
-          payload = payload;
-        }) }
-        ensures leads { IsOk result →
-            IsTrue (leads NID.eq C.eq L.committed L.voted self.now state.old) }
-        ensures log { OnOk result (IsTrue (same_log C.eq (full_log state.new.log_ids)
-            (log_with_own self.now.leader_id state.old))) }
-        ensures memberships { OnOk result (AppendsPayload NID.eq N.eq
-            (next_own_id self.now.leader_id state.old) (payload_membership payload)
-            state.old.membership_state state.new.membership_state) }
-        ensures accepted { OnOk result (state.new.accepted ≡ after_accept L.eq C.cmp
-            state.old.accepted (vote_of state.old).leader_id
-            (Some (next_own_id self.now.leader_id state.old))) }
-        ensures rest { OnOk result (state.new ≡ record state.old {
-          log_ids = state.new.log_ids;
-          membership_state = state.new.membership_state;
-          accepted = state.new.accepted;
-        }) }
-        ensures refused { IfErr result (IsProposalRefusal C.cmp
-            (leads NID.eq C.eq L.committed L.voted self.now state.old
-            && may_accept L.order state.old)
-            (record { log_id = next_own_id self.now.leader_id state.old; payload = payload })
-            state.old) }
-        ensures err { OnErr result (state.new ≡ state.old) }
+        ensures appended { let by = compared NID.Ord N.eq L.LeaderIdentity C.Ord in
+            IfOk result (AppendsOwn by self.now payload state.old state.new) }
+        ensures refused { let by = compared NID.Ord N.eq L.LeaderIdentity C.Ord in
+            IfErr result (RefusesOwn by self.now payload state.old state.new) }
         ensures sound { IsSound C.eq C.cmp state.old → IsSound C.eq C.cmp state.new }
     {
         if !self.leads(state) || !state.can_accept() {

@@ -1,8 +1,10 @@
 //! When a leader steps down.
 ghost use Rattle.std.specs.Prelude.{◌≡◌, ◌||◌, not};
-ghost use Rattle.raft_handlers.specs.Leadership.{is_removed, leads};
+ghost use Rattle.raft_handlers.specs.Compared.{compared};
+ghost use Rattle.raft_handlers.specs.Leadership.{is_leading, is_removed};
 
 use super::Leader;
+use crate::candidate::may_lead;
 use crate::state::State;
 use raft_base::{Instant, LeaderIdentity, Node, NodeId};
 use raft_state::RaftStateIn;
@@ -13,8 +15,7 @@ impl<NID: NodeId, N: Node, C: Ord + Copy + Drop> Leader<NID, N, C> {
     pub fn is_removed<I: Instant, L: Drop>(&self, state: &RaftStateIn<NID, N, I, L, C>) -> bool
         ensures { result ≡ is_removed NID.eq self.now state.now.membership_state }
     {
-        !state.membership_state.is_voter(&self.id)
-            && !state.membership_state.committed().is_voter(&self.id)
+        !may_lead(&self.id, state)
     }
 }
 
@@ -24,7 +25,8 @@ impl<NID: NodeId, N: Node, C: Ord + Copy + Default + Drop + 'static> Leader<NID,
         &self,
         state: &State<NID, N, I, L>,
     ) -> bool
-        ensures { result ≡ (not (leads NID.eq C.eq L.committed L.voted self.now state.now)
+        ensures { let by = compared NID.Ord N.eq L.LeaderIdentity C.Ord in
+            result ≡ (not (is_leading by self.now state.now)
             || is_removed NID.eq self.now state.now.membership_state) }
     {
         !self.leads(state) || self.is_removed(state)

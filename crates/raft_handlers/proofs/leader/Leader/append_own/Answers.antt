@@ -12,8 +12,8 @@ pub update_accepted-requires-clause-no_lesser_leader : goal.update_accepted-requ
 update_accepted-requires-clause-no_lesser_leader g c = λ κs lives.
     rw c.append_entries.ensures.rest (second_so _ _ (sym c.can_accept.ensures ∙ c.if-not-can_accept.false))
 
-pub returns-clause-memberships : goal.returns-clause-memberships
-returns-clause-memberships g c =
+pub returns-clause-appended : goal.returns-clause-appended
+returns-clause-appended g c =
     let entry : EntryOf g.row.C.Denot g.row.NID.Denot g.row.N.Denot g.row.D.Denot =
     record { log_id = c.new-log_id.result; payload = c.args.payload } in
     let items : c.deref-3.result.now ≡ entry ∷ [] =
@@ -23,11 +23,18 @@ returns-clause-memberships g c =
     let own : c.new-log_id.result ≡ next_own_id c.args.self.now.leader_id c.args.state.now = search rules in
     let ok : is_err c.append_entries.result ≡ false = sym c.is_err.ensures.value ∙ c.if-is_err.false in
     let done = rw items at (not_err _ c.append_entries.result ok c.append_entries.ensures.memberships) in
-    rw (c.update_accepted.ensures.taken, ← own)
-    (appends_payload g.NID.PartialEq.eq g.N.PartialEq.eq
-    (λ (e : EntryOf g.row.C.Denot g.row.NID.Denot g.row.N.Denot g.row.D.Denot). e.log_id)
-    (λ (e : EntryOf g.row.C.Denot g.row.NID.Denot g.row.N.Denot g.row.D.Denot). payload_membership e.payload)
-    entry c.args.state.now.membership_state c.append_entries.new.self.membership_state done)
+    record {
+      leads = search rules;
+      is_next = search rules;
+      log = search rules;
+      memberships = rw (c.update_accepted.ensures.taken, ← own)
+          (appends_payload g.NID.PartialEq.eq g.N.PartialEq.eq
+          (λ (e : EntryOf g.row.C.Denot g.row.NID.Denot g.row.N.Denot g.row.D.Denot). e.log_id)
+          (λ (e : EntryOf g.row.C.Denot g.row.NID.Denot g.row.N.Denot g.row.D.Denot). payload_membership e.payload)
+          entry c.args.state.now.membership_state c.append_entries.new.self.membership_state done);
+      accepted = search rules;
+      rest = search rules;
+    }
 
 pub returns-clause-sound : goal.returns-clause-sound
 returns-clause-sound g c = λ sound.

@@ -1,8 +1,15 @@
 use Rattle.std.proofs.Common.{ap, ◌∙◌}
+use Rattle.raft_progress.specs.declared.entry.ProgressEntryOf.{ProgressEntryOf}
 use Rattle.raft_progress.specs.tracked.Tracked.{tracked_view}
 use Rattle.raft_handlers.specs.Leadership.{unknown_entry}
-use Rattle.raft_handlers.proofs.lemmas.ChangeLemmas.{begins_value, keeps_value}
+use Rattle.raft_handlers.proofs.lemmas.ChangeLemmas.{begins_part, begins_value, keeps_value}
 use Rattle.raft_handlers.proofs.leader.Leader.followers_over.Goals as goal
+
+pub returns-in-Granted-clause-default : goal.returns-in-Granted-clause-default
+returns-in-Granted-clause-default g c =
+    begins_part g.NID.PartialEq.eq _ _ _ _ (λ v w is. is) (tracked_view c.self.inside.followers) (tracked_view c.in-Ok.followers)
+    (tracked_view c.change_to.new.self) c.args.members c.empty-unknown.result _ c.in-Granted.ensures.step c.in-Ok.ensures.progress
+    ∙ ap (λ (e : ProgressEntryOf g.row.C.Denot). e.matching) c.empty-unknown.ensures
 
 pub returns-in-Granted-clause-kept : goal.returns-in-Granted-clause-kept
 returns-in-Granted-clause-kept g c =

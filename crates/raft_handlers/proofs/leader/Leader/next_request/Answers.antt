@@ -1,3 +1,4 @@
+use Rattle.raft_progress.specs.entry.Send.{can_send, send_table}
 use Rattle.raft_progress.specs.tracked.Tracked.{tracked_view}
 use Rattle.raft_state.specs.raft_state.VoteAndLog.{log_view_of}
 use Rattle.raft_handlers.proofs.lemmas.SendLemmas.{
@@ -9,48 +10,43 @@ use Rattle.raft_handlers.proofs.lemmas.SendLemmas.{
   next_sent,
   next_unknown,
   next_written,
+  request_sent,
 }
 use Rattle.raft_handlers.proofs.leader.Leader.next_request.Goals as goal
 
-pub returns-clause-unknown : goal.returns-clause-unknown
-returns-clause-unknown g c = λ none.
-    let here = rw (← c.self.view_is) at none in
-    next_unknown g.NID.PartialEq.eq g.C.Ord.cmp (tracked_view c.self.inside.followers) (tracked_view c.next_send.new.self) c.args.to.now
-    (log_view_of c.args.state.now) c.args.max_entries c.next_send.result c.next_send.ensures here
-
-pub returns-clause-sent : goal.returns-clause-sent
-returns-clause-sent g c = λ entry next known after.
-    let here = rw (← c.self.view_is) at known in
-    next_sent g.NID.PartialEq.eq g.C.Ord.cmp (tracked_view c.self.inside.followers) (tracked_view c.next_send.new.self) c.args.to.now
-    (log_view_of c.args.state.now) c.args.max_entries c.next_send.result c.next_send.ensures entry next here after
-
-pub returns-clause-in_flight : goal.returns-clause-in_flight
-returns-clause-in_flight g c = λ entry next known after.
-    let here = rw (← c.self.view_is) at known in
+pub returns : goal.returns
+returns g c =
+    let eq = g.NID.PartialEq.eq in
+    let cmp = g.C.Ord.cmp in
     let old = tracked_view c.self.inside.followers in
     let new = tracked_view c.next_send.new.self in
     let to = c.args.to.now in
-    let is = next_written g.NID.PartialEq.eq g.C.Ord.cmp old new to (log_view_of c.args.state.now) c.args.max_entries c.next_send.result
-    c.next_send.ensures entry next here after in
-    rw (← c.self.view_is) (leader_writes g.NID.PartialEq.eq
-    (record { id = c.self.inside.id; leader_id = c.self.inside.leader_id; followers = old }) new to next
-    (member_written g.met.NID.Eq.laws old new to entry next here is))
-
-pub returns-clause-heartbeat : goal.returns-clause-heartbeat
-returns-clause-heartbeat g c = λ entry known after.
-    let here = rw (← c.self.view_is) at known in
-    next_idle g.NID.PartialEq.eq g.C.Ord.cmp (tracked_view c.self.inside.followers) (tracked_view c.next_send.new.self) c.args.to.now
-    (log_view_of c.args.state.now) c.args.max_entries c.next_send.result c.next_send.ensures entry here after
-
-pub returns-clause-unchanged : goal.returns-clause-unchanged
-returns-clause-unchanged g c = λ none.
-    let is = next_none g.NID.PartialEq.eq g.C.Ord.cmp (tracked_view c.self.inside.followers) (tracked_view c.next_send.new.self)
-    c.args.to.now (log_view_of c.args.state.now) c.args.max_entries c.next_send.result c.next_send.ensures none in
-    rw (← c.self.view_is) (λ i. record { id = c.self.inside.id; leader_id = c.self.inside.leader_id; followers = is i })
-
-pub returns-clause-unchanged_by_heartbeat : goal.returns-clause-unchanged_by_heartbeat
-returns-clause-unchanged_by_heartbeat g c = λ entry known after.
-    let here = rw (← c.self.view_is) at known in
-    let is = next_kept g.NID.PartialEq.eq g.C.Ord.cmp (tracked_view c.self.inside.followers) (tracked_view c.next_send.new.self)
-    c.args.to.now (log_view_of c.args.state.now) c.args.max_entries c.next_send.result c.next_send.ensures entry here after in
-    rw (← c.self.view_is) (λ i. record { id = c.self.inside.id; leader_id = c.self.inside.leader_id; followers = is i })
+    let log = log_view_of c.args.state.now in
+    let max = c.args.max_entries in
+    record {
+      unknown = λ none.
+          let here = rw (← c.self.view_is) at none in
+          next_unknown eq cmp old new to log max c.next_send.result c.next_send.ensures here;
+      sent = λ entry next known after.
+          let here = rw (← c.self.view_is) at known in
+          next_sent eq cmp old new to log max c.next_send.result c.next_send.ensures entry next here after;
+      in_flight = λ entry next known after.
+          let here = rw (← c.self.view_is) at known in
+          let is = next_written eq cmp old new to log max c.next_send.result c.next_send.ensures entry next here after in
+          rw (← c.self.view_is) (leader_writes eq
+          (record { id = c.self.inside.id; leader_id = c.self.inside.leader_id; followers = old }) new to next
+          (member_written g.met.NID.Eq.laws old new to entry next here is));
+      from_log = λ entry next known after idle logged.
+          let is = request_sent (can_send entry log) (send_table cmp entry log max) next after in
+          c.sends_from_log.ensures log entry next max logged idle is.0 is.1;
+      heartbeat = λ entry known after.
+          let here = rw (← c.self.view_is) at known in
+          next_idle eq cmp old new to log max c.next_send.result c.next_send.ensures entry here after;
+      unchanged = λ none.
+          let is = next_none eq cmp old new to log max c.next_send.result c.next_send.ensures none in
+          rw (← c.self.view_is) (λ i. record { id = c.self.inside.id; leader_id = c.self.inside.leader_id; followers = is i });
+      unchanged_by_heartbeat = λ entry known after.
+          let here = rw (← c.self.view_is) at known in
+          let is = next_kept eq cmp old new to log max c.next_send.result c.next_send.ensures entry here after in
+          rw (← c.self.view_is) (λ i. record { id = c.self.inside.id; leader_id = c.self.inside.leader_id; followers = is i });
+    }

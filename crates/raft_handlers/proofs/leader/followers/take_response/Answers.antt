@@ -8,12 +8,14 @@ use Rattle.raft_progress.specs.tracked.Tracked.{tracked_view}
 use Rattle.raft_progress.specs.declared.entry.ProgressEntryOf.{ProgressEntryOf}
 use Rattle.raft_progress.specs.declared.progress.steps.Reply.TheVariants.{Granted}
 use Rattle.raft_handlers.specs.Leadership.{WritesMember}
-use Rattle.raft_handlers.specs.Responses.{after_outcome, after_response, refused}
+use Rattle.raft_handlers.specs.Responses.{after_outcome, after_response, as_refused}
 use Rattle.raft_handlers.specs.declared.error.HandlerError.TheVariants.{HigherVote}
 use Rattle.raft_handlers.proofs.lemmas.FollowerLemmas.{id_le-refl}
 use Rattle.raft_handlers.proofs.lemmas.SendLemmas.{
+  ack_default,
   ack_rises,
   answers_known,
+  conflict_default,
   conflict_rises,
   conflict_table,
   member_stays,
@@ -34,13 +36,18 @@ returns-in-Some-clause-step g c =
     let request = c.in-Some.request in
     let upto = c.in-Matches.upto in
     let table : (entry : ProgressEntryOf g.row.C.Denot) → after_response cmp entry c.args.response.now
-    ≡ refused (entry_after_ack cmp entry request upto) = λ entry. rw (c.in-Some.is, c.in-Matches.is) refl in
+    ≡ as_refused (entry_after_ack cmp entry request upto) = λ entry. rw (c.in-Some.is, c.in-Matches.is) refl in
     rw c.refuse.ensures (refused_response (member_value eq old from) (λ entry. entry_after_ack cmp entry request upto)
     (λ entry. after_response cmp entry c.args.response.now)
     (λ next. IsTrackedUpdate eq (option_cmp (log_id_cmp cmp)) (λ (e : ProgressEntryOf g.row.C.Denot). e.matching) old from next
     (Granted new.progress.granted) new) (λ next. WritesMember eq old from next new) old new table
     (λ entry next known u. record { entries = u.values.3.value; members = u.membership })
     c.acknowledge.result c.acknowledge.ensures)
+
+pub returns-in-Some-clause-default : goal.returns-in-Some-clause-default
+returns-in-Some-clause-default g c =
+    ack_default g.NID.PartialEq.eq g.met.C.Ord.total (tracked_view c.args.followers.now) (tracked_view c.acknowledge.new.self)
+    c.args.from.now c.in-Some.request c.in-Matches.upto c.acknowledge.result c.acknowledge.ensures
 
 pub returns-in-Some-clause-monotone : goal.returns-in-Some-clause-monotone
 returns-in-Some-clause-monotone g c =
@@ -69,12 +76,17 @@ returns-in-Conflict-clause-step g c =
     let request = c.args.response.now.request in
     let index = c.in-Conflict.index in
     let table : (entry : ProgressEntryOf g.row.C.Denot) → after_response cmp entry c.args.response.now
-    ≡ refused (entry_after_conflict entry request index) =
+    ≡ as_refused (entry_after_conflict entry request index) =
     λ entry. ap (after_outcome cmp entry request) c.in-Conflict.is ∙ conflict_table g.row.L.Denot cmp entry request index in
     rw c.refuse-in-Conflict.ensures (refused_response (member_value eq old from) (λ entry. entry_after_conflict entry request index)
     (λ entry. after_response cmp entry c.args.response.now) (λ next. new ≡ with_member_value eq old from next)
     (λ next. WritesMember eq old from next new) old new table
     (λ entry next known is. member_written g.met.NID.Eq.laws old new from entry next known is) c.conflict.result c.conflict.ensures)
+
+pub returns-in-Conflict-clause-default : goal.returns-in-Conflict-clause-default
+returns-in-Conflict-clause-default g c =
+    conflict_default g.NID.PartialEq.eq g.met.C.Ord.total (tracked_view c.args.followers.now) (tracked_view c.conflict.new.self)
+    c.args.from.now c.args.response.now.request c.in-Conflict.index c.conflict.result c.conflict.ensures
 
 pub returns-in-Conflict-clause-monotone : goal.returns-in-Conflict-clause-monotone
 returns-in-Conflict-clause-monotone g c =
