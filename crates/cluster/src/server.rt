@@ -5,7 +5,7 @@ use crate::fault::Fault;
 use crate::message::Content;
 use crate::types::{Candidate, CommittedLeaderId, Entry, Leader, LogId, Members, State, Vote};
 use raft_base::LogStateReader;
-use raft_handlers::{HandlerError, start_cluster};
+use raft_handlers::{HandlerError, may_lead, start_cluster};
 use rand::RngExt;
 use rand_pcg::Pcg32;
 use std::alloc::{AllocError, Global};
@@ -105,8 +105,7 @@ impl Server {
     /// Whether the server may campaign and lead: it is a voter, or it was one before a change that
     /// is not committed, and its log may be needed to commit the change.
     pub fn may_lead(&self) -> bool {
-        let memberships = &self.state.membership_state;
-        memberships.is_voter(&self.id) || memberships.committed().is_voter(&self.id)
+        may_lead(&self.id, &self.state)
     }
 
     /// Becomes a follower, and waits anew for a leader.
