@@ -3,7 +3,7 @@ use Rattle.std.specs.Prelude.{◌≡◌, ◌<◌, ℕ, Bool, true, false, Some, 
 use Rattle.std.specs.declared.cmp.Ordering.{Ordering}
 use Rattle.raft_base.specs.declared.log_id.LogIdOf.{LogIdOf}
 use Rattle.raft_handlers.specs.Compared.{Compared}
-use Rattle.raft_handlers.specs.Leadership.{Leadership, QuorumsHave, granted_by, is_of_leader, unknown_entry}
+use Rattle.raft_handlers.specs.Leadership.{Leadership, QuorumsHave, granted_by, is_of_leader, new_entry}
 use Rattle.raft_handlers.specs.Proposals.{AppendsOwn, IsOwnRefusal}
 use Rattle.raft_handlers.specs.declared.leader.change.ChangeError.{ChangeError}
 use Rattle.raft_handlers.specs.declared.leader.change.ChangeError.TheVariants.{Change, Entry, NoOwnGranted, NotJoint}
@@ -24,19 +24,19 @@ use Rattle.raft_state.specs.declared.entry.payload.EntryPayload.TheVariants.{Bla
 
 module _ {K N C : Type 0} (eq : K → K → Bool) where
   -- who stays a member keeps what is known of it, and of a new member nothing is known but that its
-  -- log does not match from an index on
-  pub record KeepsValues (end : ℕ) (old new : TrackedView K N (ProgressEntryOf C) (Option (LogIdOf C)))
+  -- log does not match from an index on; its requests are numbered after a number
+  pub record KeepsValues (end last_request : ℕ) (old new : TrackedView K N (ProgressEntryOf C) (Option (LogIdOf C)))
       : Type 0 where
     pub kept : (id : K) (entry : ProgressEntryOf C)
         → (state eq old.progress).value id ≡ Some entry
         → is_some ((state eq new.progress).value id) ≡ true
         → (state eq new.progress).value id ≡ Some entry
     pub added : (id : K) (entry : ProgressEntryOf C) → (state eq old.progress).value id ≡ None
-        → (state eq new.progress).value id ≡ Some entry → entry ≡ unknown_entry end
+        → (state eq new.progress).value id ≡ Some entry → entry ≡ new_entry end last_request
 
   -- the same of what a leader knows
   abbrev pub KeepsEntries : ℕ → Leadership K N C → Leadership K N C → Type 0
-  KeepsEntries end old new = KeepsValues end old.followers new.followers
+  KeepsEntries end old new = KeepsValues end old.last_request old.followers new.followers
 
 -- an entry stores a membership: equal configs, and equal nodes
 abbrev pub StoresMembership : {K N D : Type 0} → (K → K → Bool) → (N → N → Bool) → MemberList K N

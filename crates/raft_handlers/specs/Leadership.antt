@@ -40,11 +40,13 @@ use Rattle.raft_state.specs.raft_state.VoteAndLog.{log_view_of, vote_of}
 use Rattle.raft_state.specs.raft_state.Valid.{none_or_logged}
 use Rattle.raft_state.specs.declared.raft_state.RaftStateIn.{RaftStateIn}
 
--- the node that leads, its committed leader id, and what it knows of each member by its membership
+-- the node that leads, its committed leader id, what it knows of each member by its membership, and the
+-- greatest number of a request that it has sent
 pub record Leadership (K N C : Type 0) : Type 0 where
   pub id : K
   pub leader_id : C
   pub followers : TrackedView K N (ProgressEntryOf C) (Option (LogIdOf C))
+  pub last_request : ℕ
 
 -- the last log id that a quorum has
 abbrev pub granted_by : {K N C : Type 0} → Leadership K N C → Option (LogIdOf C)
@@ -76,6 +78,10 @@ unknown_entry end = record {
   searching_end = end;
 }
 
+-- what is known of a new member: nothing, and its requests are numbered after this number
+abbrev pub new_entry : {C : Type 0} → ℕ → (last_request : ℕ) → ProgressEntryOf C
+new_entry end last_request = record (unknown_entry end) { curr_inflight_id = last_request }
+
 -- the value of one member is this one now, and membership and other values are as they were
 pub record WritesMember {K N C : Type 0} (eq : K → K → Bool) (old : Followers K N C) (id : K)
     (entry : ProgressEntryOf C) (new : Followers K N C) : Type 0 where
@@ -100,6 +106,7 @@ module _ {K N C : Type 0} (eq : K → K → Bool) where
       (s : RaftStateIn K N I L C) (l : Leadership K N C) : Type 0 where
     pub node : l.id ≡ id
     pub leader : l.leader_id ≡ leader_id
+    pub no_request : l.last_request ≡ 0
     pub members : IsTrue (same_members eq same (membership_of s.membership_state.effective)
         l.followers.membership)
     pub configs : l.followers.membership.configs

@@ -1,18 +1,19 @@
 -- What a leader sends to a member next, and what the response makes of what it knows of the member.
-use Rattle.std.specs.Prelude.{◌≡◌, ℕ, Bool, false, Option, Some, None, Result, Ok, Err, IsOk, IsTrue, OnErr}
+use Rattle.std.specs.Prelude.{◌≡◌, ℕ, Bool, false, max, Option, Some, None, Result, Ok, Err, IsOk, IsTrue, OnErr}
+use Rattle.std.specs.Option.{option_map_or}
 use Rattle.std.specs.declared.cmp.Ordering.{Ordering}
 use Rattle.raft_base.specs.LogView.{LogView}
 use Rattle.raft_base.specs.Logged.{Logged}
 use Rattle.raft_progress.specs.entry.EntryTable.{entry_after_ack, entry_after_conflict}
 use Rattle.raft_progress.specs.entry.Request.{after_request}
-use Rattle.raft_progress.specs.inflight.Inflight.{is_idle}
+use Rattle.raft_progress.specs.inflight.Inflight.{id_of, is_idle}
 use Rattle.raft_progress.specs.progress.Comparisons.{OrdMembers}
 use Rattle.raft_progress.specs.declared.entry.ProgressEntryOf.{ProgressEntryOf}
 use Rattle.raft_progress.specs.declared.inflight.InflightError.{InflightError}
 use Rattle.raft_progress.specs.declared.inflight.InflightOf.{InflightOf}
 use Rattle.raft_progress.specs.declared.inflight.InflightOf.TheVariants.{None as Idle}
 use Rattle.raft_state.specs.raft_state.Sending.{FromLog}
-use Rattle.raft_handlers.specs.Leadership.{Leadership, WritesEntry, entry_of}
+use Rattle.raft_handlers.specs.Leadership.{Leadership, WritesEntry, WritesMember, entry_of}
 use Rattle.raft_handlers.specs.declared.error.HandlerError.{HandlerError}
 use Rattle.raft_handlers.specs.declared.error.HandlerError.TheVariants.{ForeignResponse, HigherVote, ResponseRefused, UnknownMember}
 use Rattle.raft_handlers.specs.declared.message.Outcome.{Outcome}
@@ -44,6 +45,11 @@ abbrev pub after_response : {L C : Type 0} → (C → C → Ordering) → Progre
     → Result (ProgressEntryOf C) HandlerError
 after_response cmp entry response = after_outcome cmp entry response.request response.outcome
 
+-- the greatest number of a request, once this is sent
+abbrev pub number_after : {C : Type 0} → ℕ → Option (InflightOf C) → ℕ
+number_after last None = last
+number_after last (Some sending) = option_map_or (λ id. max last id) (id_of sending) last
+
 module _ {K N C : Type 0} (eq : K → K → Bool) (by : OrdMembers C) where
   -- what is sent to a member next: what is put in flight, if a send is allowed and there is something to
   -- send, and otherwise a heartbeat, which changes nothing; to an id of no member nothing is sent; over
@@ -54,7 +60,12 @@ module _ {K N C : Type 0} (eq : K → K → Bool) (by : OrdMembers C) where
     pub sent : (entry next : ProgressEntryOf C) → entry_of eq old to ≡ Some entry
         → after_request by.cmp entry log max_entries ≡ Some next → result ≡ Some next.inflight
     pub in_flight : (entry next : ProgressEntryOf C) → entry_of eq old to ≡ Some entry
-        → after_request by.cmp entry log max_entries ≡ Some next → WritesEntry eq old to next new
+        → after_request by.cmp entry log max_entries ≡ Some next
+        → WritesMember eq old.followers to next new.followers
+    pub numbered : new ≡ record old {
+      followers = new.followers;
+      last_request = number_after old.last_request result;
+    }
     pub from_log : (entry next : ProgressEntryOf C) → entry_of eq old to ≡ Some entry
         → after_request by.cmp entry log max_entries ≡ Some next → IsTrue (is_idle entry.inflight)
         → Logged by.cmp log → FromLog log max_entries entry next.inflight

@@ -38,6 +38,9 @@ where
     id: NID,
     leader_id: C,
     followers: Tracked<NID, N, ProgressEntryOf<C>, Option<LogIdOf<C>>>,
+    /// The greatest number of a request that was sent. The requests to a member that is added are
+    /// numbered after it, so a response to an earlier request to the same node is refused.
+    last_request: u64,
 }
 
 impl<NID: NodeId, N: Node, C: Ord + Copy> Model for Leader<NID, N, C>
@@ -55,6 +58,7 @@ where
       id = a.id;
       leader_id = a.leader_id;
       followers = tracked_view a.followers;
+      last_request = a.last_request;
     } };
 
     ghost invariant = { λ a. (tracked_view a.followers).progress.default_part ≡ None };
@@ -142,6 +146,7 @@ impl<NID: NodeId, N: Node, C: Ord + Copy + Drop> Leader<NID, N, C> {
                 id,
                 leader_id,
                 followers,
+                last_request: 0,
             }),
             Err(_) => Err(HandlerError::OutOfMemory),
         }

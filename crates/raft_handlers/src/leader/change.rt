@@ -133,7 +133,8 @@ impl<NID: NodeId, N: Node, C: Ord + Copy + Drop> Leader<NID, N, C> {
     ghost use Rattle.raft_progress.specs.tracked.Tracked.{tracked_view};
 
     /// What is known of the members of a membership, in which those who stay keep what is known of
-    /// them, and nothing is known of the others.
+    /// them, and nothing is known of the others. The requests to these are numbered anew, after
+    /// those that the leader has sent.
     fn followers_over(
         &self,
         members: Membership<NID, N>,
@@ -142,7 +143,7 @@ impl<NID: NodeId, N: Node, C: Ord + Copy + Drop> Leader<NID, N, C> {
         requires clones_are_equal { ClonesAreEqual N.eq N.is_clone }
         ensures members { IfOk result (λ made. (tracked_view made).membership ≡ members) }
         ensures kept { IfOk result (λ made. KeepsValues NID.eq (next_index last)
-            self.now.followers (tracked_view made)) }
+            self.now.last_request self.now.followers (tracked_view made)) }
         ensures default { IfOk result (λ made. (tracked_view made).progress.default_part ≡ None) }
         ensures refused { IfErr result (IsFullLogRefusal (next_index last)) }
         ensures ready { IfOk result (λ made. IsReady NID.eq NID.cmp (option_cmp (log_id_cmp C.cmp))
@@ -152,6 +153,7 @@ impl<NID: NodeId, N: Node, C: Ord + Copy + Drop> Leader<NID, N, C> {
             return Err(HandlerError::NoNextIndex);
         }
         let unknown = ProgressEntryOf::<C>::empty(last.next_index());
+        let unknown = unknown.with_curr_inflight_id(self.last_request);
         let Ok(mut followers) = self.followers.try_clone() else {
             return Err(HandlerError::OutOfMemory);
         };

@@ -4,7 +4,7 @@ ghost use Rattle.std.specs.Option.{option_map};
 ghost use Rattle.raft_base.specs.LogId.{id_le};
 ghost use Rattle.raft_handlers.specs.Compared.{compared};
 ghost use Rattle.raft_handlers.specs.Leadership.{IsFlushRefusal, WritesEntry, WritesMember, entry_of, flushed_entry, granted_by, is_leading};
-ghost use Rattle.raft_handlers.specs.Responses.{SendsNext, TakesResponse, after_response, as_refused};
+ghost use Rattle.raft_handlers.specs.Responses.{SendsNext, TakesResponse, after_response, as_refused, number_after};
 ghost use Rattle.raft_progress.specs.tracked.Followers.{IsResponse, member_value};
 ghost use Rattle.raft_progress.specs.tracked.Tracked.{tracked_view};
 ghost use Rattle.raft_progress.specs.declared.entry.ProgressEntryOf.{ProgressEntryOf};
@@ -38,7 +38,9 @@ impl<NID: NodeId, N: Node, C: Ord + Copy + Drop> Leader<NID, N, C> {
     {
         // Called for the proof alone: what is sent is from the log.
         sends_from_log::<C>();
-        self.followers.next_send(to, state, max_entries)
+        let sending = self.followers.next_send(to, state, max_entries);
+        self.last_request = number_after(self.last_request, &sending);
+        sending
     }
 
     /// Takes a member's response to a request. An acknowledgement raises the member's match, and a
@@ -125,6 +127,16 @@ impl<NID: NodeId, N: Node, C: Ord + Copy + Default + Drop + 'static> Leader<NID,
         let entry = ProgressEntryOf::<C>::new(upto);
         let _reply = self.followers.update(&self.id, entry);
         Ok(())
+    }
+}
+
+/// Returns the greatest number of a request, once this is sent.
+fn number_after<C>(last: u64, sending: &Option<InflightOf<C>>) -> u64
+    ensures { result ≡ number_after last sending.now }
+{
+    match sending {
+        Some(InflightOf::Logs { id, .. } | InflightOf::Snapshot { id, .. }) => last.max(*id),
+        _ => last,
     }
 }
 

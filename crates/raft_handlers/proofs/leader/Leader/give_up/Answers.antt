@@ -8,6 +8,7 @@ use Rattle.raft_handlers.proofs.leader.Leader.give_up.Goals as goal
 
 pub returns-in-Some-clause-idle : goal.returns-in-Some-clause-idle
 returns-in-Some-clause-idle g c = λ entry known.
+    let me = c.self.inside in
     let to = c.args.to.now in
     let new = c.give_up.new.self in
     let here = rw (← c.self.view_is) at known in
@@ -18,5 +19,5 @@ returns-in-Some-clause-idle g c = λ entry known.
     let idle : new ≡ record entry { inflight = Idle } = rw same at c.give_up.ensures.idle in
     let le : id_le g.C.Ord.cmp entry.matching new.matching ≡ true = rw idle (id_le-refl g.met.C.Ord.total entry.matching) in
     rw (← c.self.view_is, ← idle) (entry_written g.met.C.Ord.total g.NID.PartialEq.eq
-    (record { id = c.self.inside.id; leader_id = c.self.inside.leader_id; followers = tracked_view c.self.inside.followers })
+    (record { id = me.id; leader_id = me.leader_id; followers = tracked_view me.followers; last_request = me.last_request })
     (tracked_view c.update-reply.new.self) to entry new c.update-reply.result c.update-reply.ensures.step here le)

@@ -5,9 +5,10 @@ use Rattle.raft_handlers.proofs.leader.Leader.granted.Goals as goal
 
 pub returns-clause-greatest : goal.returns-clause-greatest
 returns-clause-greatest g c = λ id.
+    let me = c.self.inside in
     let t = tracked_view c.self.inside.followers in
     let ready = c.quorums_know_granted.ensures.ready in
     let each = match_granted g.met.NID.Eq.laws g.C.Ord.cmp
-    (record { id = c.self.inside.id; leader_id = c.self.inside.leader_id; followers = t }) ready id
+    (record { id = me.id; leader_id = me.leader_id; followers = t; last_request = me.last_request }) ready id
     (c.granted_is_threshold.ensures t.progress ready.ordered (Some id)) c.self.invariant in
     rw (← c.self.view_is) (rw (c.granted.ensures ∙ ap (λ p. p.granted) c.progress.ensures) each)

@@ -34,6 +34,7 @@ returns-then-ne-clause-takes g c =
 
 pub returns-clause-takes : goal.returns-clause-takes
 returns-clause-takes g c =
+    let me = c.self.inside in
     let eq = g.NID.PartialEq.eq in
     let cmp = g.C.Ord.cmp in
     let old = tracked_view c.self.inside.followers in
@@ -57,13 +58,13 @@ returns-clause-takes g c =
           let written = response_written (member_value eq old from) (λ entry. after_response cmp entry response)
           (λ next. WritesMember eq old from next new) old new c.in-Some.taken c.in-Some.ensures.step entry next here after in
           rw (← c.self.view_is) (leader_writes eq
-          (record { id = c.self.inside.id; leader_id = c.self.inside.leader_id; followers = old }) new from next written);
+          (record { id = me.id; leader_id = me.leader_id; followers = old; last_request = me.last_request }) new from next written);
       refused = λ entry e _ known after.
           let here = rw (← c.self.view_is) at known in
           response_refused (member_value eq old from) (λ entry. after_response cmp entry response)
           (λ next. WritesMember eq old from next new) old new c.in-Some.taken c.in-Some.ensures.step entry e here after;
       err = rw (← c.self.view_is) (on_err c.in-Some.taken (new ≡ old) _
-          (λ is i. record { id = c.self.inside.id; leader_id = c.self.inside.leader_id; followers = is i })
+          (λ is i. record { id = me.id; leader_id = me.leader_id; followers = is i; last_request = me.last_request })
           (response_err (member_value eq old from) (λ entry. after_response cmp entry response)
           (λ next. WritesMember eq old from next new) old new c.in-Some.taken c.in-Some.ensures.step));
     }
@@ -91,8 +92,9 @@ returns-in_default-clause-takes g c =
           let e : Some entry ≡ None = sym here ∙ c.in_default.ensures.step.0 in
           cc;
       err =
+          let me = c.self.inside in
           let is = c.in_default.ensures.step.1 in
-          rw (← c.self.view_is) (λ i. record { id = c.self.inside.id; leader_id = c.self.inside.leader_id; followers = is i });
+          rw (← c.self.view_is) (λ i. record { id = me.id; leader_id = me.leader_id; followers = is i; last_request = me.last_request });
     }
 
 pub returns-in_default-clause-monotone : goal.returns-in_default-clause-monotone

@@ -42,7 +42,8 @@ returns-in-Ok-append_own-clause-appended g c =
       counted = rw c.in-Ok-followers_over.ensures.members (sym (c.in-Ok-try_clone.ensures.configs)
           ∙ sym (effective_configs eq g.N.PartialEq.eq _ c.in-Ok-try_clone.stored
           c.args.state.now.membership_state c.append_own.new.state.membership_state own.memberships));
-      kept = subst (λ (o : Option (LogIdOf g.row.C.Denot)). KeepsValues eq (next_index o) c.args.self.now.followers new)
+      kept = subst (λ (o : Option (LogIdOf g.row.C.Denot)). KeepsValues eq (next_index o) c.args.self.now.last_request
+          c.args.self.now.followers new)
           (c.copied-last.ensures ∙ c.last_log_id.ensures) c.in-Ok-followers_over.ensures.kept;
       still_known = λ some same.
           let some' : 0 < length old.membership.configs = rw (← c.self.view_is) at some in

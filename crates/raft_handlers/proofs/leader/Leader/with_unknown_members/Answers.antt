@@ -1,4 +1,4 @@
-use Rattle.std.proofs.Common.{◌≡◌, ap, rules, ◌∙◌}
+use Rattle.std.proofs.Common.{◌≡◌, ap, refl, rules, ◌∙◌}
 use Rattle.raft_base.specs.LogId.{next_index}
 use Rattle.raft_members.specs.membership.Stored.{membership_of}
 use Rattle.raft_members.specs.quorum.Majority.{is_voter_of}
@@ -18,6 +18,7 @@ returns-in-Ok-new-clause-begins g c =
     record {
       node = search rules;
       leader = search rules;
+      no_request = refl;
       members = search rules;
       configs = counted;
       voters_counted = λ x votes.
