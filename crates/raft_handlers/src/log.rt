@@ -1,9 +1,10 @@
 //! The end of a log, replaced by new entries.
-ghost use Rattle.std.specs.Prelude.{◌≡◌, ◌&&◌, false, IsTrue, IfErr, OnOk, OnErr, nat_eq};
+ghost use Rattle.std.specs.Prelude.{◌≡◌, ◌&&◌, false, IsTrue, IfErr, OnOk, OnErr, Option, Some, nat_eq};
 ghost use Rattle.std.specs.Set.{ClonesAreEqual};
 ghost use Rattle.raft_base.specs.LogId.{next_index};
+ghost use Rattle.raft_base.specs.declared.log_id.LogIdOf.{LogIdOf};
 ghost use Rattle.raft_handlers.specs.Append.{IsCut, Replaces, Stops};
-ghost use Rattle.raft_handlers.specs.Entries.{are_in_order, commit_tests, end_tests, ends_before, has_past_committed, may_cut, may_extend, new_tests, tests_hold, RefusedUnless};
+ghost use Rattle.raft_handlers.specs.Entries.{are_in_order, commit_tests, end_tests, ends_before, has_past_committed, may_append_after, may_cut, may_extend, new_tests, tests_hold, RefusedUnless};
 ghost use Rattle.raft_state.specs.log_id_list.LogConditions.{follows};
 ghost use Rattle.raft_state.specs.raft_state.Commit.{state_after_commit, state_may_commit};
 ghost use Rattle.raft_state.specs.raft_state.Sound.{purged_or_logged, IsSound};
@@ -11,7 +12,7 @@ ghost use Rattle.raft_state.specs.raft_state.Sound.{purged_or_logged, IsSound};
 use crate::error::HandlerError;
 use raft_base::order::{index_below, log_id_below};
 use raft_base::{Instant, LogIdOf, LogIdOptionExt, LogStateReader, Node, NodeId};
-use raft_state::{EntryOf, RaftStateIn};
+use raft_state::{EntryOf, RaftPayload, RaftStateIn};
 
 /// Truncates the log at an index, unless the log ends before it. Refuses to truncate what is
 /// committed.
@@ -72,11 +73,54 @@ pub(crate) fn append_new<NID: NodeId, N: Node, I: Instant, L: Drop, C: Ord + Cop
         return Ok(());
     };
     cut(state, first.log_id.index)?;
-    if !state.can_append_entries(new) {
+    if !may_extend(state, new) {
         return Err(refusal(state, new));
     }
     state.append_entries(new)?;
     Ok(())
+}
+
+/// Whether entries may be appended to the log. Most continue it under its last leader, and store no
+/// membership: these are tested in one loop.
+fn may_extend<NID: NodeId, N: Node, I: Instant, L: Drop, C: Ord + Copy + Drop, D>(
+    state: &RaftStateIn<NID, N, I, L, C>,
+    new: &[EntryOf<C, NID, N, D>],
+) -> bool
+    ensures { result ≡ may_extend C.cmp new.now state.now }
+{
+    match state.last_log_id() {
+        Some(last) if continue_log(last, new) => true,
+        _ => state.can_append_entries(new),
+    }
+}
+
+/// Whether entries have consecutive indexes after a log id, are of its leader, and store no
+/// membership.
+///
+/// A call of its own: inlined into a handler, the loop keeps its values in memory.
+#[inline(never)]
+fn continue_log<NID: NodeId, N: Node, C: Ord + Copy, D>(
+    last: &LogIdOf<C>,
+    entries: &[EntryOf<C, NID, N, D>],
+) -> bool
+    ensures { IsTrue result → (members : Option (LogIdOf C)) →
+        IsTrue (may_append_after C.cmp (Some last.now) members entries.now) }
+{
+    if last.index > u64::MAX - entries.len() as u64 {
+        return false;
+    }
+    let leader = last.leader_id;
+    let mut index = last.index;
+    for entry in entries {
+        index += 1;
+        if entry.log_id.index != index
+            || entry.log_id.leader_id != leader
+            || entry.get_membership().is_some()
+        {
+            return false;
+        }
+    }
+    true
 }
 
 /// Why entries may not be appended: they are not in order after the log, or else their memberships

@@ -1,4 +1,4 @@
--- Look-ups past the last index of a log.
+-- Entries that continue a log under one leader, and look-ups past the last index of a log.
 use Rattle.std.proofs.Common.{
   ◌≡◌,
   ℕ,
@@ -12,6 +12,7 @@ use Rattle.std.proofs.Common.{
   List,
   [],
   ◌∷◌,
+  Option,
   Some,
   None,
   if◌then◌else◌,
@@ -23,16 +24,91 @@ use Rattle.std.proofs.Common.{
   ◌∙◌,
 }
 use Rattle.std.proofs.Math.Bool.{and-false}
+use Rattle.std.specs.Prelude.{nat_lt, not}
+use Rattle.std.proofs.lemmas.Bool.{and_parts}
 use Rattle.std.proofs.lemmas.Bool.Decides.{nat_tests}
-use Rattle.raft_base.specs.LogId.{same_id, same_ids}
+use Rattle.std.specs.Cmp.{IsEquivalence}
+use Rattle.std.specs.Cmp.Derive.{both_true}
+use Rattle.std.specs.Ordering.{is_eq, is_le}
+use Rattle.std.specs.declared.cmp.Ordering.{Ordering}
+use Rattle.std.specs.declared.cmp.Ordering.TheVariants.{Less, Equal, Greater}
+use Rattle.raft_base.specs.LogId.{next_index, same_id, same_ids}
 use Rattle.raft_base.specs.declared.log_id.LogIdOf.{LogIdOf}
+use Rattle.raft_handlers.specs.Entries.{entry_ids, may_append_after, stores_membership}
 use Rattle.raft_state.proofs.lemmas.log_id_list.FrontLemmas.{last_at}
+use Rattle.raft_state.proofs.lemmas.log_id_list.IdOrderLemmas.{leaders_symm, leaders_trans}
 use Rattle.raft_state.proofs.lemmas.log_id_list.OrderLemmas.{From}
 use Rattle.raft_state.proofs.lemmas.sound.LoggedIds.{is_kept}
 use Rattle.raft_state.specs.log_id_list.FullLog.{full_log}
+use Rattle.raft_state.specs.log_id_list.LogConditions.{all_follow}
 use Rattle.raft_state.specs.log_id_list.LogReads.{id_at, last_id}
+use Rattle.raft_state.specs.raft_state.Appended.{are_consecutive, memberships_follow}
 use Rattle.raft_state.specs.raft_state.Sound.{purged_or_logged}
+use Rattle.raft_state.specs.declared.entry.EntryOf.{EntryOf}
 use Rattle.raft_state.specs.declared.raft_state.RaftStateIn.{RaftStateIn}
+
+-- entries have consecutive indexes from this one on, are of this leader, and store no membership
+abbrev pub continue_from : {C K N D : Type 0} → (C → C → Bool) → C → ℕ → List (EntryOf C K N D) → Bool
+continue_from eq leader i [] = true
+continue_from eq leader i (e ∷ es) =
+    nat_eq e.log_id.index i
+    && (eq e.log_id.leader_id leader && (not (stores_membership e) && continue_from eq leader (i + 1) es))
+
+pub continue_past : {C K N D : Type 0} (eq : C → C → Bool) (leader : C) (i : ℕ) (e : EntryOf C K N D) (es : List (EntryOf C K N D))
+    → e.log_id.index ≡ i → eq e.log_id.leader_id leader ≡ true → stores_membership e ≡ false
+    → continue_from eq leader i (e ∷ es) ≡ continue_from eq leader (i + 1) es
+continue_past eq leader i e es at of_leader plain =
+    let t : nat_eq e.log_id.index i ≡ true = grind (arith, nat_tests) in rw (t, of_leader, plain) refl
+
+eq_is_le : (r : Ordering) → is_eq r ≡ true → is_le r ≡ true
+eq_is_le Less h = refl
+eq_is_le Equal h = refl
+eq_is_le Greater h = cc
+
+must_not : (b : Bool) → not b ≡ true → b ≡ false
+must_not true h = cc
+must_not false h = refl
+
+-- such entries may be appended after a log id of their leader, and leave the memberships
+module _ {C K N D : Type 0} (eq : C → C → Bool) (leader : C) where
+  leaders_stay : (cmp : C → C → Ordering) → IsEquivalence eq → ((x y : C) → eq x y ≡ is_eq (cmp x y)) → (prev : LogIdOf C)
+      (es : List (EntryOf C K N D)) → eq prev.leader_id leader ≡ true → continue_from eq leader (prev.index + 1) es ≡ true
+      → all_follow cmp (Some prev) (entry_ids es) ≡ true
+  leaders_stay cmp eqs is prev [] of_leader h = refl
+  leaders_stay cmp eqs is prev (e ∷ es) of_leader h =
+      let b = and_parts _ _ h in let c = and_parts _ _ b.1 in let d = and_parts _ _ c.1 in
+      let t : nat_eq e.log_id.index (prev.index + 1) ≡ true = b.0 in
+      let at : e.log_id.index ≡ prev.index + 1 = grind (arith, nat_tests) in
+      let lt : nat_lt prev.index e.log_id.index ≡ true = grind (arith, nat_tests) in
+      let same = leaders_trans eqs prev.leader_id leader e.log_id.leader_id of_leader
+      (leaders_symm eqs e.log_id.leader_id leader c.0) in
+      let le = eq_is_le (cmp prev.leader_id e.log_id.leader_id) (sym (is prev.leader_id e.log_id.leader_id) ∙ same) in
+      both_true (both_true lt le) (leaders_stay cmp eqs is e.log_id es c.0 (rw at d.1))
+
+  indexes_follow : (prev : LogIdOf C) (es : List (EntryOf C K N D)) → continue_from eq leader (prev.index + 1) es ≡ true
+      → are_consecutive (Some prev) (entry_ids es) ≡ true
+  indexes_follow prev [] h = refl
+  indexes_follow prev (e ∷ es) h =
+      let b = and_parts _ _ h in let c = and_parts _ _ b.1 in let d = and_parts _ _ c.1 in
+      let t : nat_eq e.log_id.index (prev.index + 1) ≡ true = b.0 in
+      let at : e.log_id.index ≡ prev.index + 1 = grind (arith, nat_tests) in
+      let next : nat_eq e.log_id.index (next_index (Some prev)) ≡ true = grind (arith, nat_tests) in
+      both_true next (indexes_follow e.log_id es (rw at d.1))
+
+  members_stay : (cmp : C → C → Ordering) (i : ℕ) (members : Option (LogIdOf C)) (es : List (EntryOf C K N D))
+      → continue_from eq leader i es ≡ true
+      → memberships_follow cmp (λ e. e.log_id) (λ e. stores_membership e) members es ≡ true
+  members_stay cmp i members [] h = refl
+  members_stay cmp i members (e ∷ es) h =
+      let b = and_parts _ _ h in let c = and_parts _ _ b.1 in let d = and_parts _ _ c.1 in
+      rw (must_not (stores_membership e) d.0) (members_stay cmp (i + 1) members es d.1)
+
+  pub may_continue : (cmp : C → C → Ordering) → IsEquivalence eq → ((x y : C) → eq x y ≡ is_eq (cmp x y)) → (prev : LogIdOf C)
+      (members : Option (LogIdOf C)) (es : List (EntryOf C K N D)) → eq prev.leader_id leader ≡ true
+      → continue_from eq leader (prev.index + 1) es ≡ true → may_append_after cmp (Some prev) members es ≡ true
+  may_continue cmp eqs is prev members es of_leader h =
+      both_true (both_true (leaders_stay cmp eqs is prev es of_leader h) (indexes_follow prev es h))
+      (members_stay cmp (prev.index + 1) members es h)
 
 -- what a log has past its last index, and at it
 found_alone : {C : Type 0} (eq : C → C → Bool) (x id : LogIdOf C)

@@ -22,7 +22,7 @@ pub returns-clause-replaced : goal.returns-clause-replaced
 returns-clause-replaced g c =
     let first = c.in-Some.first.now in
     let begins : slice_get c.args.new.now 0 ≡ Some first = sym (rw c.in-Some.is at c.first.ensures.value) in
-    let may = sym c.can_append_entries.ensures ∙ c.if-not-can_append_entries.false in
+    let may = sym c.may_extend.ensures ∙ c.if-not-may_extend.false in
     let a = c.in_ok-append_entries.ensures in
     replaces _ g.NID.PartialEq.eq g.N.PartialEq.eq g.met.C.Eq.laws c.args.new.now first c.args.state.now c.cut.new.state begins
     c.in_ok-cut.ensures.cut c.append_entries.new.self may a.log a.last a.kept a.own a.memberships a.effective a.rest
@@ -45,15 +45,15 @@ returns-in_err-cut-clause-stopped g c =
     c.in_err-cut.ensures.err in
     search (rules, stops)
 
-pub returns-then-not-can_append_entries-clause-refused : goal.returns-then-not-can_append_entries-clause-refused
-returns-then-not-can_append_entries-clause-refused g c =
+pub returns-then-not-may_extend-clause-refused : goal.returns-then-not-may_extend-clause-refused
+returns-then-not-may_extend-clause-refused g c =
     let first = c.in-Some.first.now in
     let begins : slice_get c.args.new.now 0 ≡ Some first = sym (rw c.in-Some.is at c.first.ensures.value) in
     end_refused _ g.NID.PartialEq.eq g.N.PartialEq.eq g.met.C.Eq.laws c.args.new.now first c.args.state.now c.cut.new.state begins
     c.in_ok-cut.ensures.cut c.refusal.result c.refusal.ensures
 
-pub returns-then-not-can_append_entries-clause-stopped : goal.returns-then-not-can_append_entries-clause-stopped
-returns-then-not-can_append_entries-clause-stopped g c =
+pub returns-then-not-may_extend-clause-stopped : goal.returns-then-not-may_extend-clause-stopped
+returns-then-not-may_extend-clause-stopped g c =
     let first = c.in-Some.first.now in
     let begins : slice_get c.args.new.now 0 ≡ Some first = sym (rw c.in-Some.is at c.first.ensures.value) in
     stops_cut _ g.NID.PartialEq.eq g.N.PartialEq.eq g.met.C.Eq.laws c.args.new.now first c.args.state.now c.cut.new.state begins
