@@ -103,7 +103,8 @@ fn continue_log<NID: NodeId, N: Node, C: Ord + Copy, D>(
     last: &LogIdOf<C>,
     entries: &[EntryOf<C, NID, N, D>],
 ) -> bool
-    ensures { IsTrue result → (members : Option (LogIdOf C)) →
+    ensures in_order { IsTrue result → IsTrue (are_in_order C.cmp (Some last.now) entries.now) }
+    ensures may { IsTrue result → (members : Option (LogIdOf C)) →
         IsTrue (may_append_after C.cmp (Some last.now) members entries.now) }
 {
     if last.index > u64::MAX - entries.len() as u64 {
@@ -141,6 +142,19 @@ fn refusal<NID: NodeId, N: Node, I: Instant, L: Drop, C: Ord + Copy + Drop, D>(
 
 /// Whether entries have consecutive indexes after a log id, and their leaders never fall.
 pub(crate) fn are_in_order<NID: NodeId, N: Node, C: Ord + Copy, D>(
+    last: Option<LogIdOf<C>>,
+    entries: &[EntryOf<C, NID, N, D>],
+) -> bool
+    ensures { result ≡ are_in_order C.cmp last entries.now }
+{
+    match last {
+        Some(last) if continue_log(&last, entries) => true,
+        _ => are_successors(last, entries),
+    }
+}
+
+/// Whether each entry may come next after the one before it, and the first one after a log id.
+fn are_successors<NID: NodeId, N: Node, C: Ord + Copy, D>(
     last: Option<LogIdOf<C>>,
     entries: &[EntryOf<C, NID, N, D>],
 ) -> bool

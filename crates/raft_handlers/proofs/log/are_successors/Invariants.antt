@@ -1,6 +1,6 @@
 use Rattle.std.proofs.Common.{◌≡◌, drop}
 use Rattle.raft_handlers.specs.Entries.{are_in_order}
-use Rattle.raft_handlers.proofs.log.are_in_order.Given as goal
+use Rattle.raft_handlers.proofs.log.are_successors.Given as goal
 
 abbrev pub invariant-loop-entry : goal.invariant-loop-entry
 invariant-loop-entry g l =
