@@ -1,7 +1,7 @@
 //! Handlers with each allocation refused in turn, or all of them.
 
 use crate::candidate::candidate;
-use crate::leader::{LIFE, LeaderOf, Led, SNAPSHOT, snapshotted};
+use crate::leader::{LeaderOf, Led};
 use crate::states::{Entry, Row, StateOf, entries, entry_of_members, follower, id, members, voter};
 use crate::vote::{ROWS, answers};
 use raft_base::{EmptyNode, LeaderAdv, LeaderId, LeaderKind, VoteIn};
@@ -275,27 +275,6 @@ fn allocations_of_a_leader(rt: HostRuntime) -> Result<(), Fail> {
     Ok(())
 }
 
-/// A leader with what it sends and hears, of the state that it is elected in.
-fn led_of<K: LeaderKind<u64>>(
-    state: Result<StateOf<K>, HandlerError>,
-) -> Result<Led<K>, AllocError> {
-    match state {
-        Ok(state) => in_memory(Led::<K>::new(state)),
-        Err(_) => Err(AllocError),
-    }
-}
-
-/// Whether a leader sends, takes responses and commits without an allocation, with all of its log
-/// and with a snapshot.
-fn is_leader_free<K: LeaderKind<u64>>(rt: &impl Print, alloc: Global) -> io::Result<bool> {
-    let name = "Leader::{next_request, handle_response, handle_flushed, give_up, commit}";
-    let led = led_of::<K>(Ok(voter::<K>(alloc)?));
-    let is_right = is_free_on(rt, alloc, name, led, |led| led.fails(LIFE).is_none())?;
-    let led = led_of::<K>(snapshotted::<K>(alloc));
-    let is_free = is_free_on(rt, alloc, name, led, |led| led.fails(SNAPSHOT).is_none())?;
-    Ok(is_free && is_right)
-}
-
 #[test]
 fn no_allocations(rt: HostRuntime) -> Result<(), Fail> {
     let alloc = rt.alloc();
@@ -304,6 +283,5 @@ fn no_allocations(rt: HostRuntime) -> Result<(), Fail> {
         let vote = |state: &mut State| holds(answers::<LeaderAdv>(state, row));
         assert!(rt; is_free_on(&rt, alloc, "handle_vote_request", state, vote)?);
     }
-    assert!(rt; is_leader_free::<LeaderAdv>(&rt, alloc)?);
     Ok(())
 }
