@@ -22,6 +22,10 @@ term_then_node-partial {N} {cmp} {same} o ties term node =
 pub never_none : {G : Type 0} (o : Ordering) → Some o ≡ None → G
 never_none o h = cc
 
+-- what two leaders compare as is what decides
+pub decided : {p : Ordering} (o : Ordering) → Some o ≡ Some p → o ≡ p
+decided o h = cc
+
 -- numbers that differ do not tie
 pub apart : (x y : ℕ) → x ≢ y → nat_cmp x y ≡ Equal → ⊥
 apart x y h e = h (ranked x y Equal (sym e))

@@ -3,7 +3,7 @@ use Rattle.std.specs.Prelude.{◌≡◌, ℕ, Bool, true, false, Option, Some, N
 use Rattle.std.specs.Bool.{Decides}
 use Rattle.std.specs.Cmp.{IsEquivalence, IsPartialOrder, po, then_po, on_po, nat_cmp_total, unsigned_ties}
 use Rattle.std.specs.Option.{option_eq, option_map}
-use Rattle.std.specs.Ordering.{nat_cmp, ordering_reverse, partial_ordering_then, is_le, is_some_and}
+use Rattle.std.specs.Ordering.{nat_cmp, ordering_reverse, partial_ordering_then, is_eq, is_le, is_some_and}
 use Rattle.std.proofs.Common.{refl, sym, ap, ◌∙◌, subst}
 use Rattle.std.specs.declared.cmp.Ordering.{Ordering}
 use Rattle.std.specs.declared.cmp.Ordering.TheVariants.{Less, Equal, Greater}
@@ -86,7 +86,7 @@ above_both same (Some m) (Some n) None h k = cc
 above_both same (Some m) (Some n) (Some p) h k = never_less (same m p) k
 
 -- what does not compare is of one term
-one_term : (o : Ordering) (p : Option Ordering) → partial_ordering_then (Some o) p ≡ None
+pub one_term : (o : Ordering) (p : Option Ordering) → partial_ordering_then (Some o) p ≡ None
     → (o ≡ Equal) × (p ≡ None)
 one_term Less p h = cc
 one_term Equal p h = (refl, h)
@@ -135,3 +135,17 @@ pub term_at_most : (o : Ordering) (p : Option Ordering)
 term_at_most Less p h = refl
 term_at_most Equal p h = refl
 term_at_most Greater p h = cc
+
+-- of two nodes that are voted for neither is below the other, so what is below has the lower term
+pub lesser_term : {N : Type 0} {m n : N} (same : N → N → Bool) (o : Ordering) (a b : Option N)
+    → a ≡ Some m → b ≡ Some n → partial_ordering_then (Some o) (voted_cmp same a b) ≡ Some Less
+    → o ≡ Less
+lesser_term same Less a b x y h = refl
+lesser_term {m = m} {n = n} same Equal a b x y h =
+    never_less (same m n) (subst (λ (v : Option _). voted_cmp same v (Some n) ≡ Some Less) x
+    (subst (λ (v : Option _). voted_cmp same a v ≡ Some Less) y h))
+lesser_term same Greater a b x y h = cc
+
+-- terms that tie are equal
+pub same_term : (s t : ℕ) → nat_cmp s t ≡ Equal → nat_eq s t ≡ true
+same_term s t h = unsigned_ties s t ∙ ap is_eq h

@@ -3,9 +3,10 @@
 //! Votes are generic in the type of their leader ids. The trait `LeaderIdentity` of such a type has
 //! what votes need. A `LeaderKind` names the leader type for each type of node ids, and requires
 //! that leader ids can be displayed.
-ghost use Rattle.std.specs.Prelude.{◌≡◌, ◌≢◌, ◌&&◌, ℕ, Bool, Some, IsTrue, nat_eq, refl};
+ghost use Rattle.std.specs.Prelude.{◌≡◌, ◌≢◌, ◌&&◌, ℕ, Bool, Some, IsTrue, None, nat_eq, refl};
 ghost use Rattle.std.specs.declared.option.Option.{Option};
 ghost use Rattle.std.specs.declared.cmp.Ordering.{Ordering};
+ghost use Rattle.std.specs.declared.cmp.Ordering.TheVariants.{Less};
 ghost use Rattle.std.specs.Cmp.{IsPartialOrder};
 ghost use Rattle.std.specs.Ordering.{nat_cmp, is_le, partial_le};
 ghost use Rattle.raft_base.specs.LeaderOrder.{IncomparableAlike};
@@ -84,6 +85,15 @@ pub trait LeaderIdentity: Eq + Copy + Default + 'static {
     /// If a leader is at most another one, its committed leader id is at most the other's.
     ghost rises: { (a b : Self) → IsTrue (partial_le order a b)
         → IsTrue (is_le (Self.Committed.cmp (committed a) (committed b))) };
+
+    /// Of two leaders with a node, the lesser one has the lesser committed leader id. So two leaders
+    /// that are elected one after the other never have the same one.
+    ghost lesser: { (a b : Self) (m n : Self.Id) → voted a ≡ Some m → voted b ≡ Some n
+        → order a b ≡ Some Less → Self.Committed.cmp (committed a) (committed b) ≡ Less };
+
+    /// Leaders that do not compare have equal committed leader ids.
+    ghost one_committed: { (a b : Self) → order a b ≡ None
+        → IsTrue (Self.Committed.eq (committed a) (committed b)) };
 
     /// `same_as` holds exactly if the committed leader id of the leader equals the given one.
     ghost same: { (a : Self) (c : Self.Committed)
@@ -181,7 +191,7 @@ impl<NID: NodeId> LeaderIdentity for LeaderId<NID> {
     type Committed = CommittedLeaderId<NID>;
 
     ghost use Rattle.raft_base.specs.LeaderId.{leader_id_cmp};
-    ghost use Rattle.raft_base.specs.LeaderIdLawful.{term_then_node-partial, first_decides, apart, never_none};
+    ghost use Rattle.raft_base.specs.LeaderIdLawful.{term_then_node-partial, first_decides, apart, decided, never_none};
 
     ghost order = { λ a b. Some (leader_id_cmp NID.cmp a b) };
 
@@ -231,6 +241,10 @@ impl<NID: NodeId> LeaderIdentity for LeaderId<NID> {
     ghost by_term = { λ a b h. first_decides (nat_cmp a.term b.term) _ (apart a.term b.term h) };
 
     ghost rises = { λ a b h. h };
+
+    ghost lesser = { λ a b m n x y h. decided _ h };
+
+    ghost one_committed = { λ a b h. never_none _ h };
 
     ghost same = { λ a c. refl };
 

@@ -2,7 +2,7 @@
 ghost use Rattle.std.specs.Prelude.{◌≡◌, Some, None, nat_eq, refl};
 ghost use Rattle.std.specs.Ordering.{nat_cmp};
 ghost use Rattle.raft_base.specs.LeaderIdStd.{std_leader_cmp, voted_cmp};
-ghost use Rattle.raft_base.specs.LeaderIdStdLawful.{alike_above, alike_below, first_decides, term_at_most, term_then_voted-partial};
+ghost use Rattle.raft_base.specs.LeaderIdStdLawful.{alike_above, alike_below, first_decides, lesser_term, one_term, same_term, term_at_most, term_then_voted-partial};
 ghost use Rattle.raft_base.specs.LeaderIdLawful.{apart};
 ghost use Rattle.raft_base.specs.LeaderOrderLawful.{alike_if};
 
@@ -189,6 +189,11 @@ impl<NID: NodeId> LeaderIdentity for LeaderId<NID> {
     ghost by_term = { λ a b h. first_decides (nat_cmp a.term b.term) _ (apart a.term b.term h) };
 
     ghost rises = { λ a b h. term_at_most (nat_cmp a.term b.term) _ h };
+
+    ghost lesser = { λ a b m n x y h.
+        lesser_term NID.eq (nat_cmp a.term b.term) a.voted_for b.voted_for x y h };
+
+    ghost one_committed = { λ a b h. same_term a.term b.term (one_term (nat_cmp a.term b.term) _ h).0 };
 
     ghost same = { λ a c. refl };
 

@@ -1,5 +1,5 @@
 //! A kind of leader ids of a caller's own: a leader stands in a region.
-ghost use Rattle.raft_base.specs.LeaderIdLawful.{apart, first_decides, never_none};
+ghost use Rattle.raft_base.specs.LeaderIdLawful.{apart, decided, first_decides, never_none};
 ghost use Rattle.std.proofs.Common.{rules};
 ghost use Rattle.std.specs.Cmp.Rules.{comparing};
 ghost use Rattle.std.specs.Cmp.{po};
@@ -101,6 +101,10 @@ impl LeaderIdentity for RegionLeader {
     ghost by_term = { λ a b h. first_decides (nat_cmp a.term b.term) _ (apart a.term b.term h) };
 
     ghost rises = { λ a b h. h };
+
+    ghost lesser = { λ a b m n x y h. decided _ h };
+
+    ghost one_committed = { λ a b h. never_none _ h };
 
     ghost same = { λ a c. refl };
 
