@@ -6,5 +6,6 @@ pub mod Recount
 pub mod Refusal
 pub mod Rises
 pub mod Settled
+pub mod Sides
 pub mod ViewAnswers
 pub mod Turns

@@ -7,6 +7,7 @@ mod part;
 mod positions;
 mod recount;
 mod replay_any_steps;
+pub(crate) mod sides;
 mod stat;
 mod steps;
 mod vec_progress;

@@ -1,7 +1,12 @@
 //! A membership and the progress that counts by it.
-ghost use Rattle.std.specs.Prelude.{◌≡◌, IfOk};
+ghost use Rattle.std.specs.Prelude.{◌≡◌, ◌||◌, IfOk, is_some};
+ghost use Rattle.std.specs.Option.{ForSome};
+ghost use Rattle.std.proofs.Props.{props};
 ghost use Rattle.raft_members.specs.membership.Learners.{learners_of};
-ghost use Rattle.raft_members.specs.membership.Members.{members_of};
+ghost use Rattle.raft_members.specs.membership.Members.{members_of, node_at};
+ghost use Rattle.raft_members.specs.quorum.Majority.{is_voter_of};
+ghost use Rattle.raft_progress.specs.Inner.Sides.{AreSidesOfMembers};
+ghost use Rattle.raft_progress.specs.progress.ProgressView.{state};
 ghost use Rattle.raft_progress.specs.tracked.TrackedState.{AreLearners, IsReady};
 ghost use Rattle.raft_progress.specs.progress.VecProgress.{view};
 
@@ -11,11 +16,13 @@ mod membership_progress;
 mod replay_steps;
 mod step;
 
+use crate::progress::sides::Sides;
 use crate::progress::{ProgressPart, Reply, VecProgress};
 use raft_base::{Node, NodeId};
 use raft_members::membership::{Configs, Membership};
 pub use replay_steps::replay;
 use std::alloc::{AllocError, Global};
+use std::fmt;
 pub use step::Step;
 
 /// The progress of a membership's voters, by the quorums of its configs, and of its learners.
@@ -28,12 +35,15 @@ pub type MembershipProgress<NID, V, P> = VecProgress<NID, V, P, Configs<NID>>;
 /// the progress with it. Values also change by `update`, and for a leader's followers by
 /// `next_send`, `acknowledge` and `conflict`. So the progress is always in order, and counts by the
 /// membership.
-#[derive(Debug, PartialEq, Eq, Drop)]
+#[derive(PartialEq, Eq, Drop)]
 pub struct Tracked<NID: NodeId, N: Node, V: ProgressPart<P>, P: Copy + Ord> {
     membership: Membership<NID, N>,
     progress: MembershipProgress<NID, V, P>,
+    /// The voters of each config, if there are two. They are determined by the membership.
+    sides: Option<Sides>,
     pub ghost ready: { ∥ IsReady NID.eq NID.cmp P.cmp V.part_of
         (record { membership = membership; progress = view progress }) ∥₁ },
+    ghost sides_fit: { ForSome sides (AreSidesOfMembers NID.eq NID.cmp membership) } by { Prim.hlevel props },
 }
 
 impl<NID: NodeId, N: Node, V: ProgressPart<P>, P: Copy + Ord> Tracked<NID, N, V, P> {
@@ -59,9 +69,11 @@ impl<NID: NodeId, N: Node, V: ProgressPart<P>, P: Copy + Ord> Tracked<NID, N, V,
         ensures ready { IfOk result (λ made. TrackedIsReady made) }
     {
         let progress = MembershipProgress::of(&membership, default)?;
+        let sides = sides_of(&membership, &progress)?;
         Ok(Tracked {
             membership,
             progress,
+            sides,
         })
     }
 
@@ -98,7 +110,7 @@ impl<NID: NodeId, N: Node, V: ProgressPart<P>, P: Copy + Ord> Tracked<NID, N, V,
         ensures changed_quorums { ChangedQuorumsHaveGranted self.new }
     {
         // Each voter of the membership's progress is one of its configs, so voters are counted.
-        self.progress.write(id, value, true)
+        self.progress.write(id, value, true, self.sides.as_ref())
     }
 }
 
@@ -123,11 +135,48 @@ impl<NID: NodeId, N: Node, V: ProgressPart<P> + Clone, P: Copy + Ord> Tracked<NI
         let membership = self.membership.try_clone()?;
         let configs = membership.to_quorum_set()?;
         let progress = self.progress.clone_over(configs)?;
+        let sides = sides_of(&membership, &progress)?;
         Ok(Tracked {
             membership,
             progress,
+            sides,
         })
     }
+}
+
+/// The text has the membership and its progress, and no more.
+impl<NID: NodeId, N: Node, V: ProgressPart<P> + fmt::Debug, P: Copy + Ord + fmt::Debug> fmt::Debug
+    for Tracked<NID, N, V, P> {
+    fn fmt<W: fmt::Write>(&self, f: &mut fmt::Formatter<W>) -> fmt::Result {
+        f.debug_struct("Tracked")
+            .field("membership", &self.membership)
+            .field("progress", &self.progress)
+            .finish()
+    }
+}
+
+/// Returns the voters of each config of a membership that has two, and `None` for any other one, or
+/// an allocation error.
+// A stale list of positions is not asked, because it may have other ids. That of a membership's
+// progress is never stale.
+fn sides_of<NID: NodeId, N: Node, V: ProgressPart<P>, P: Copy + Ord>(
+    membership: &Membership<NID, N>,
+    progress: &MembershipProgress<NID, V, P>,
+) -> Result<Option<Sides>, AllocError>
+    requires known { (id : NID) → is_some ((state NID.eq (view progress.now)).value id)
+        ≡ (is_voter_of NID.eq membership.now.configs id
+        || is_some (node_at NID.cmp membership.now.nodes id)) }
+    ensures { IfOk result (λ sides.
+        ForSome sides (AreSidesOfMembers NID.eq NID.cmp membership.now)) }
+{
+    let Some(sorted) = progress.sorted() else {
+        return Ok(None);
+    };
+    if let [first, second] = membership.get_joint_config().as_slice() {
+        let sides = Sides::of_two(progress.allocator(), sorted, first, second)?;
+        return Ok(Some(sides));
+    }
+    Ok(None)
 }
 
 /// Returns the learners of a membership, ascending.

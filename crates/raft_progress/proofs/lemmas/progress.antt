@@ -14,6 +14,7 @@ pub mod OutcomeLemmas
 pub mod RefusalLemmas
 pub mod RunLemmas
 pub mod SettledLemmas
+pub mod SideLemmas
 pub mod SizeLemmas
 pub mod StatisticsLemmas
 pub mod StepLemmas

@@ -1,10 +1,10 @@
 //! The position of each id among the entries, in a sorted list beside them, or by a search of the
 //! entries if the list may be stale.
-ghost use Rattle.std.specs.Prelude.{◌≡◌, ◌<◌, ◌≤◌, false, length, map, position, IfOk, IsTrue, Ok, Some};
+ghost use Rattle.std.specs.Prelude.{◌≡◌, ◌<◌, ◌≤◌, false, length, map, position, take, IfOk, IsTrue, Ok, Some};
 ghost use Rattle.std.specs.List.{IsDistinct};
 ghost use Rattle.std.specs.List.Sorted.{IsStrictlySortedBy};
 ghost use Rattle.std.specs.Map.{keys_of, values_of};
-ghost use Rattle.std.specs.Option.{option_map};
+ghost use Rattle.std.specs.Option.{ForSome, option_map};
 ghost use Rattle.std.proofs.Props.{props};
 ghost use Rattle.raft_progress.specs.Inner.Positions.{AreAllPositions, AreInverse, TellsPositions, position_in, position_after};
 
@@ -105,6 +105,26 @@ impl<ID: Copy + Ord> Positions<ID> {
         true
     }
 
+    /// Returns the ranks of the ids at the first positions.
+    #[inline(always)]
+    pub(crate) fn first_ranks(&self, count: usize) -> &[usize]
+        requires { count ≤ length self.now.ranks.items }
+        ensures { result.now ≡ take count self.now.ranks.items }
+    {
+        &self.ranks[..count]
+    }
+
+    /// Returns the sorted list, unless it is stale.
+    pub(crate) fn sorted(&self) -> Option<&[(ID, usize)]>
+        ensures { ForSome result (λ sorted. (self.now.stale ≡ false)
+            × (sorted.now ≡ self.now.sorted.items)) }
+    {
+        if self.stale {
+            return None;
+        }
+        Some(&self.sorted)
+    }
+
     /// Updates the positions after an entry was moved from `last` up to `first`, unless the list is
     /// stale. It never allocates.
     #[inline(always)]
@@ -112,6 +132,7 @@ impl<ID: Copy + Ord> Positions<ID> {
         requires ascending { first ≤ last }
         requires within { self.old.stale ≡ false → last < length self.old.ranks.items }
         ensures stale { self.new.stale ≡ self.old.stale }
+        ensures ids { keys_of self.new.sorted.items ≡ keys_of self.old.sorted.items }
         ensures shifted { self.old.stale ≡ false → (x : ID) →
             position_in ID.eq self.new.sorted.items x ≡
             option_map (position_after first last) (position_in ID.eq self.old.sorted.items x) }

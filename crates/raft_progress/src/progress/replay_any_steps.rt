@@ -38,7 +38,7 @@ impl<
         ensures ordered { IsInOrder ID.eq P.cmp V.part_of QS.has_quorum (view self.new) }
     {
         match step {
-            AnyStep::Update(id, value) => self.write(&id, value, false),
+            AnyStep::Update(id, value) => self.write(&id, value, false, None),
             AnyStep::IncreaseTo(id, value) => self.increase(&id, value),
             AnyStep::Upgrade {
                 quorum_set,

@@ -52,9 +52,11 @@ impl<ID: Copy + Ord, V: ProgressPart<P>, P: Copy + Ord, QS: QuorumSet<ID>> VecPr
     P,
     QS,
 > {
-    ghost use Rattle.std.specs.Prelude.{◌≡◌, ◌<◌, IfOk, IsTrue, length, position};
+    ghost use Rattle.std.specs.Prelude.{◌≡◌, ◌<◌, IfOk, IsTrue, is_some, length, position};
     ghost use Rattle.std.specs.Borrow.{sem};
     ghost use Rattle.std.specs.List.{IsDistinct};
+    ghost use Rattle.std.specs.List.Sorted.{IsStrictlySortedBy};
+    ghost use Rattle.std.specs.Set.{is_member};
     ghost use Rattle.std.specs.Map.{keys_of};
     ghost use Rattle.std.specs.Option.{ForSome, option_copied};
     ghost use Rattle.std.specs.Slice.Iter.{iter_mut_name, iter_mut_rest};
@@ -117,6 +119,17 @@ impl<ID: Copy + Ord, V: ProgressPart<P>, P: Copy + Ord, QS: QuorumSet<ID>> VecPr
     /// Returns the allocator of its entries.
     pub(crate) fn allocator(&self) -> Global {
         *self.entries.allocator()
+    }
+
+    /// Returns its ids, ascending, each with its position, unless that list is stale.
+    pub(crate) fn sorted(&self) -> Option<&[(ID, usize)]>
+        ensures ascending { ForSome result (λ sorted.
+            IsStrictlySortedBy ID.cmp (keys_of sorted.now)) }
+        ensures known { ForSome result (λ sorted. (id : ID) →
+            is_member ID.eq (keys_of sorted.now) id
+            ≡ is_some ((state ID.eq (view self.now)).value id)) }
+    {
+        self.positions.sorted()
     }
 
     /// Returns the part of the default.

@@ -15,7 +15,7 @@ ghost use Rattle.raft_progress.specs.tracked.Tracked.{ChangedQuorumsHaveGranted,
 ghost use Rattle.raft_progress.specs.tracked.TrackedState.{AreLearners, HasConfigs, is_voter};
 ghost use Rattle.raft_progress.specs.declared.progress.steps.Reply.TheVariants.{BelowDefault};
 
-use super::{Tracked, learners_of};
+use super::{Tracked, learners_of, sides_of};
 use crate::progress::{Progress, ProgressPart, Reply};
 use raft_base::{Node, NodeId};
 use raft_members::change_members::ChangeMembers;
@@ -144,7 +144,9 @@ impl<NID: NodeId, N: Node, V: ProgressPart<P> + Clone, P: Copy + Ord> Tracked<NI
                 let upgraded = self
                     .progress
                     .upgrade_quorum_set(configs, learners, default)?;
+                let sides = sides_of(&next, &upgraded)?;
                 self.progress = upgraded;
+                self.sides = sides;
                 self.membership = next;
                 Ok(Reply::Granted(*self.progress.granted()))
             }

@@ -47,7 +47,8 @@ impl<NID: NodeId, N: Node, C: Ord + Copy> Tracked<NID, N, ProgressEntryOf<C>, Op
         ensures { IsAcknowledged NID.eq C.cmp (tracked_view self.old) id.now request_id matching
             result (tracked_view self.new) }
     {
-        self.progress.acknowledge(id, request_id, matching)
+        self.progress
+            .acknowledge(id, request_id, matching, self.sides.as_ref())
     }
 
     /// Takes the response that a member does not match at an index, as

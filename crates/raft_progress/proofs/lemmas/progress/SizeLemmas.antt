@@ -57,36 +57,47 @@ member_of_take {ID} eq (suc k) (y ∷ ks) x m = by (eq x y) m (member_of_take eq
     by true h r = refl
     by false h r = r h
 
-module _ {ID V P QS : Type 0} {eq : ID → ID → Bool} (laws : IsEquivalence eq) {cmp : P → P → Ordering} (o : IsTotalOrder cmp) (part : V → P)
+-- a prefix of voters is a quorum exactly if it has as many voters as decide
+pub decided_by_size : {ID V P QS : Type 0} {eq : ID → ID → Bool} (laws : IsEquivalence eq) {cmp : P → P → Ordering} {part : V → P}
     (has_quorum : QS → (ID → Bool) → Bool) (is_voter : QS → ID → Bool) (old : ProgressView ID V P QS)
-    (distinct : IsDistinct eq (keys_of (take old.voter_count old.entries)))
-    (can : CanCount eq cmp part is_voter old) (size : ℕ)
-    (decides : SizeDecides eq (has_quorum old.quorum_set) (is_voter old.quorum_set) size) (position last : ℕ)
+    → IsDistinct eq (keys_of (take old.voter_count old.entries)) → CanCount eq cmp part is_voter old → (size : ℕ)
+    → SizeDecides eq (has_quorum old.quorum_set) (is_voter old.quorum_set) size → (k : ℕ)
+    → prefix_test eq (has_quorum old.quorum_set) (take old.voter_count old.entries) k
+    ≡ nat_le size (length (take k (take old.voter_count old.entries)))
+decided_by_size {ID} {V} {eq = eq} laws has_quorum is_voter old distinct can size decides k =
+    let voters : List (ID × V) = take old.voter_count old.entries in
+    decides (keys_of (take k voters)) (IsDistinct-voters laws k voters distinct)
+    (λ x m. can.voters x
+    (subst (λ (ks : List ID). is_member eq ks x ≡ true) (keys_take laws old.voter_count old.entries)
+    (member_of_take eq k (keys_of voters) x (subst (λ (ks : List ID). is_member eq ks x ≡ true) (keys_take laws k voters) m))))
+    ∙ ap (nat_le size) (length-keys_of (take k voters))
+
+module _ {ID V P QS : Type 0} (eq : ID → ID → Bool) {cmp : P → P → Ordering} (o : IsTotalOrder cmp) (part : V → P)
+    (has_quorum : QS → (ID → Bool) → Bool) (old : ProgressView ID V P QS)
+    (falling : IsFalling cmp part old.granted (take old.voter_count old.entries)) (size : ℕ)
+    (decided : (k : ℕ) → prefix_test eq (has_quorum old.quorum_set) (take old.voter_count old.entries) k
+    ≡ nat_le size (length (take k (take old.voter_count old.entries)))) (position last : ℕ)
     (is : last ≡ max (size - 1) position) where
   abbrev voters : List (ID × V)
   voters = take old.voter_count old.entries
 
-  -- a prefix is a quorum exactly if it has as many voters as decide
-  decided : (k : ℕ) → prefix_test eq (has_quorum old.quorum_set) voters k ≡ nat_le size (length (take k voters))
-  decided k =
-      decides (keys_of (take k voters)) (IsDistinct-voters laws k voters distinct)
-      (λ x m. can.voters x
-      (subst (λ (ks : List ID). is_member eq ks x ≡ true) (keys_take laws old.voter_count old.entries)
-      (member_of_take eq k (keys_of voters) x (subst (λ (ks : List ID). is_member eq ks x ≡ true) (keys_take laws k voters) m))))
-      ∙ ap (nat_le size) (length-keys_of (take k voters))
-
   fails : (k : ℕ) → k < size → prefix_test eq (has_quorum old.quorum_set) voters k ≡ false
   fails k l = let n = length-take k voters in let d = decided k in grind (arith, nat_tests)
 
+  some_digit : (k : ℕ) → 0 < length voters → length voters < 2 ^ k → 1 ≤ k
+  some_digit zero some l = absurd (omega arith)
+  some_digit (suc k) some l = omega arith
+
   -- no prefix that is long enough has only parts that exceed granted
-  pub none_granted : prefix_len (exceeds cmp part old.granted) voters ≤ last → old.stat.is_quorum_count < 2 ^ 64
-      → IsScanned eq cmp part has_quorum old position old
-  none_granted ends fits = record {
+  pub none_granted : prefix_len (exceeds cmp part old.granted) voters ≤ last → 0 < length voters → (tests n : ℕ) → tests ≤ 1
+      → n ≡ count_after old.stat.is_quorum_count tests
+      → IsScanned eq cmp part has_quorum old position (record old { stat = record old.stat { is_quorum_count = n } })
+  none_granted ends some tests n one counted = record {
     group = record { quorum_set = refl; voter_count = refl; default_part = refl; updates = refl };
     same_progress_entries = refl;
     moves = refl;
     found = None;
-    tests = 0;
+    tests = tests;
     scanned = record {
       none = λ e k l m. fails k (omega arith);
       above = λ k e. cc;
@@ -94,9 +105,9 @@ module _ {ID V P QS : Type 0} {eq : ID → ID → Bool} (laws : IsEquivalence eq
       holds = λ k e. cc;
       least = λ k l e. cc;
       tested = λ k e. cc;
-      few = λ k l. omega arith;
+      few = λ k l. let d = some_digit k some l in omega arith;
     };
-    counts = omega arith;
+    counts = counted;
     stays = λ e. refl;
     rises = λ k e. cc;
   }
@@ -106,7 +117,7 @@ module _ {ID V P QS : Type 0} {eq : ID → ID → Bool} (laws : IsEquivalence eq
       (leads : is_lt (cmp old.granted (part e.1)) ≡ true) where
     long : last < prefix_len (exceeds cmp part old.granted) voters
     long = in_prefix o part old.granted (λ p. is_lt (cmp old.granted p)) (λ a b h k. lt_le o old.granted a b h k) (λ a h. h) voters
-        can.falling last e within (subst (λ (f : ID × V). is_lt (cmp old.granted (part f.1)) ≡ true) at leads)
+        falling last e within (subst (λ (f : ID × V). is_lt (cmp old.granted (part f.1)) ≡ true) at leads)
 
     passes : prefix_test eq (has_quorum old.quorum_set) voters (last + 1) ≡ true
     passes = let n = length-take (last + 1) voters in let d = decided (last + 1) in grind (arith, nat_tests)
@@ -128,7 +139,7 @@ module _ {ID V P QS : Type 0} {eq : ID → ID → Bool} (laws : IsEquivalence eq
             in subst (λ (n : ℕ). prefix_test eq (has_quorum old.quorum_set) voters n ≡ true) here passes;
         least = λ k l e m n. let here : last + 1 ≡ k = cc in fails l (omega arith);
         tested = λ k e. omega arith;
-        few = λ k l. some_digit k l;
+        few = λ k l. some_digit k (omega arith) l;
       };
       counts = counted;
       stays = λ e. cc;
@@ -137,10 +148,6 @@ module _ {ID V P QS : Type 0} {eq : ID → ID → Bool} (laws : IsEquivalence eq
           let place : last ≡ k - 1 = omega arith in
           (e, subst (λ (j : ℕ). e ≡ get_or voters j e) place at, granted);
     }
-      where
-        some_digit : (k : ℕ) → length voters < 2 ^ k → 1 ≤ k
-        some_digit zero l = absurd (omega (arith, within))
-        some_digit (suc k) l = omega arith
 
 -- the value of an id is written, and not yet moved up
 module _ {ID V P QS : Type 0} {eq : ID → ID → Bool} (laws : IsEquivalence eq) {cmp : P → P → Ordering} (o : IsTotalOrder cmp) (part : V → P)

@@ -20,7 +20,7 @@ module _ {ID : Type 0} {eq : ID → ID → Bool} (laws : IsEquivalence eq) where
   all_take k (suc n) [] a = tt
   all_take k (suc n) (y ∷ ks) a = (a.0, all_take k n ks a.1)
 
-  IsDistinct-take : (n : ℕ) (ks : List ID) → IsDistinct eq ks → IsDistinct eq (take n ks)
+  pub IsDistinct-take : (n : ℕ) (ks : List ID) → IsDistinct eq ks → IsDistinct eq (take n ks)
   unfolding IsDistinct
   IsDistinct-take zero ks d = tt
   IsDistinct-take (suc n) [] d = tt

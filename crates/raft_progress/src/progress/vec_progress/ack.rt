@@ -1,6 +1,9 @@
 //! How a follower's acknowledgement is taken in place.
-ghost use Rattle.std.specs.Option.{option_cmp};
+ghost use Rattle.std.specs.Prelude.{◌≡◌, false};
+ghost use Rattle.std.specs.Map.{keys_of};
+ghost use Rattle.std.specs.Option.{ForSome, option_cmp};
 ghost use Rattle.raft_base.specs.LogId.{log_id_cmp};
+ghost use Rattle.raft_progress.specs.Inner.Sides.{AreSidesOf};
 ghost use Rattle.raft_progress.specs.Inner.Settled.{HasVotersOfSet};
 ghost use Rattle.raft_progress.specs.Inner.ViewAnswers.{IsViewWrite};
 ghost use Rattle.raft_progress.specs.declared.progress.steps.Reply.TheVariants.{Granted};
@@ -13,6 +16,7 @@ ghost use Rattle.raft_progress.specs.tracked.Followers.{IsResponse};
 use super::VecProgress;
 use crate::entry::ProgressEntryOf;
 use crate::inflight::InflightError;
+use crate::progress::sides::Sides;
 use raft_base::LogIdOf;
 use raft_members::quorum::QuorumSet;
 
@@ -31,10 +35,14 @@ impl<ID: Copy + Ord, C: Ord + Copy, QS: QuorumSet<ID>> VecProgress<
         id: &ID,
         request_id: u64,
         matching: Option<LogIdOf<C>>,
+        sides: Option<&Sides>,
     ) -> Option<Result<(), InflightError>>
         requires ordered { IsInOrder ID.eq (option_cmp (log_id_cmp C.cmp)) (λ e. e.matching)
             QS.has_quorum (view self.old) }
         requires voters { HasVotersOfSet ID.eq QS.is_voter (view self.old) }
+        requires sides { ForSome sides (λ s. self.old.positions.stale ≡ false →
+            AreSidesOf ID.eq (QS.has_quorum (view self.old).quorum_set)
+            (keys_of self.old.positions.sorted.items) s.now) }
         ensures step { IsResponse ((state ID.eq (view self.old)).value id.now)
             (λ entry. entry_after_ack C.cmp entry request_id matching)
             (λ next. IsViewWrite ID.eq (option_cmp (log_id_cmp C.cmp)) (λ e. e.matching) QS.has_quorum
@@ -54,7 +62,7 @@ impl<ID: Copy + Ord, C: Ord + Copy, QS: QuorumSet<ID>> VecProgress<
             return Some(Err(refused));
         }
         self.stat.update_count = self.stat.update_count.saturating_add(1);
-        self.restore_order(position, before, matching, true);
+        self.restore_order(position, before, matching, true, sides);
         Some(Ok(()))
     }
 }

@@ -1,11 +1,12 @@
 //! How a value is written, and how granted is recomputed.
-ghost use Rattle.std.specs.Prelude.{◌≡◌, ◌≤◌, ◌<◌, Some, is_some, length, slice_get, true};
+ghost use Rattle.std.specs.Prelude.{◌≡◌, ◌≤◌, ◌<◌, Some, false, is_some, length, slice_get, true};
 ghost use Rattle.raft_members.specs.quorum.QuorumSize.{SizeDecides};
 ghost use Rattle.std.specs.Fn.{FnOnceTakesAtMut};
 ghost use Rattle.std.specs.List.{IsDistinct};
 ghost use Rattle.std.specs.Map.{keys_of};
 ghost use Rattle.std.specs.Option.{ForSome};
 ghost use Rattle.std.specs.Ordering.{is_lt};
+ghost use Rattle.raft_progress.specs.Inner.Sides.{AreSidesOf};
 ghost use Rattle.raft_progress.specs.Inner.Settled.{CanCount, CanCountOnceRisen, HasVotersOfSet, IsPutInOrder, IsRisen, IsScanned};
 ghost use Rattle.raft_progress.specs.Inner.ViewAnswers.{IsViewWrite};
 ghost use Rattle.raft_progress.specs.progress.InOrder.{IsInOrder};
@@ -17,6 +18,7 @@ ghost use Rattle.raft_progress.specs.progress.VecProgress.{view};
 use super::VecProgress;
 use crate::progress::entries::{find_shortest_quorum, gather_leading, move_up};
 use crate::progress::part::{ProgressPart, is_at_most, is_below};
+use crate::progress::sides::Sides;
 use crate::progress::steps::Reply;
 use raft_members::quorum::QuorumSet;
 
@@ -50,7 +52,7 @@ impl<ID: Copy + Ord, V: ProgressPart<P>, P: Copy + Ord, QS: QuorumSet<ID>> VecPr
                 let after = entry.1.part();
                 // Other ids may have been written through `iter_mut`, so it is not known that each
                 // voter is one of the quorum set, and quorums are tested.
-                self.restore_order(position, before, after, false);
+                self.restore_order(position, before, after, false, None);
                 true
             }
             None => false,
@@ -62,9 +64,18 @@ impl<ID: Copy + Ord, V: ProgressPart<P>, P: Copy + Ord, QS: QuorumSet<ID>> VecPr
     // One look-up serves the test and the write. The value is moved once, and the closure of an
     // update would move it twice.
     #[inline(always)]
-    pub(crate) fn write(&mut self, id: &ID, value: V, counts: bool) -> Reply<ID, P>
+    pub(crate) fn write(
+        &mut self,
+        id: &ID,
+        value: V,
+        counts: bool,
+        sides: Option<&Sides>,
+    ) -> Reply<ID, P>
         requires ordered { IsInOrder ID.eq P.cmp V.part_of QS.has_quorum (view self.old) }
         requires voters { counts ≡ true → HasVotersOfSet ID.eq QS.is_voter (view self.old) }
+        requires sides { ForSome sides (λ s. self.old.positions.stale ≡ false →
+            AreSidesOf ID.eq (QS.has_quorum (view self.old).quorum_set)
+            (keys_of self.old.positions.sorted.items) s.now) }
         ensures step { IsViewWrite ID.eq P.cmp V.part_of QS.has_quorum
             (view self.old) id.now value result (view self.new) }
         ensures ordered { IsInOrder ID.eq P.cmp V.part_of QS.has_quorum (view self.new) }
@@ -83,7 +94,7 @@ impl<ID: Copy + Ord, V: ProgressPart<P>, P: Copy + Ord, QS: QuorumSet<ID>> VecPr
         }
         entry.1 = value;
         self.stat.update_count = self.stat.update_count.saturating_add(1);
-        self.restore_order(position, before, after, counts);
+        self.restore_order(position, before, after, counts, sides);
         Reply::Granted(self.granted)
     }
 
@@ -92,13 +103,23 @@ impl<ID: Copy + Ord, V: ProgressPart<P>, P: Copy + Ord, QS: QuorumSet<ID>> VecPr
     // Only a voter whose part has risen past granted moves up. Granted can rise only if the part
     // was at most granted before.
     #[inline(always)]
-    pub(super) fn restore_order(&mut self, position: usize, before: P, after: P, counts: bool)
+    pub(super) fn restore_order(
+        &mut self,
+        position: usize,
+        before: P,
+        after: P,
+        counts: bool,
+        sides: Option<&Sides>,
+    )
         requires within { position < length (view self.old).entries }
         requires at { (e : ID × V) → slice_get (view self.old).entries position ≡ Some e →
             after ≡ V.part_of e.1 }
         requires distinct { IsDistinct ID.eq (keys_of (view self.old).entries) }
         requires can_count { counts ≡ true →
             CanCountOnceRisen ID.eq P.cmp V.part_of QS.is_voter (view self.old) position after }
+        requires sides { ForSome sides (λ s. self.old.positions.stale ≡ false →
+            AreSidesOf ID.eq (QS.has_quorum (view self.old).quorum_set)
+            (keys_of self.old.positions.sorted.items) s.now) }
         ensures { IsPutInOrder ID.eq P.cmp V.part_of QS.has_quorum
             (view self.old) position before (view self.new) }
     {
@@ -114,7 +135,7 @@ impl<ID: Copy + Ord, V: ProgressPart<P>, P: Copy + Ord, QS: QuorumSet<ID>> VecPr
         }
         let to = self.move_voter_up(position);
         if passes_granted {
-            self.find_granted(to, counts);
+            self.find_granted(to, counts, sides);
         }
     }
 
@@ -124,6 +145,9 @@ impl<ID: Copy + Ord, V: ProgressPart<P>, P: Copy + Ord, QS: QuorumSet<ID>> VecPr
         requires { position < (view self.old).voter_count }
         ensures risen { IsRisen P.cmp V.part_of (view self.old) position result (view self.new) }
         ensures within { result ≤ position }
+        ensures stale { self.new.positions.stale ≡ self.old.positions.stale }
+        ensures ids { keys_of self.new.positions.sorted.items
+            ≡ keys_of self.old.positions.sorted.items }
     {
         self.stat.move_count = self.stat.move_count.saturating_add(1);
         let to = move_up(&mut self.entries, position);
@@ -136,15 +160,24 @@ impl<ID: Copy + Ord, V: ProgressPart<P>, P: Copy + Ord, QS: QuorumSet<ID>> VecPr
     /// Grants the last part of the shortest prefix past a position that is a quorum and whose parts
     /// exceed granted, if there is one.
     #[inline(always)]
-    fn find_granted(&mut self, position: usize, counts: bool)
+    fn find_granted(&mut self, position: usize, counts: bool, sides: Option<&Sides>)
         requires within { position < (view self.old).voter_count }
         requires distinct { IsDistinct ID.eq (keys_of (view self.old).entries) }
         requires can_count { counts ≡ true →
             CanCount ID.eq P.cmp V.part_of QS.is_voter (view self.old) }
+        requires sides { ForSome sides (λ s. self.old.positions.stale ≡ false →
+            AreSidesOf ID.eq (QS.has_quorum (view self.old).quorum_set)
+            (keys_of self.old.positions.sorted.items) s.now) }
         ensures { IsScanned ID.eq P.cmp V.part_of QS.has_quorum
             (view self.old) position (view self.new) }
     {
         if counts {
+            if let Some(sides) = sides {
+                if !self.positions.stale {
+                    self.grant_by_sides(position, sides);
+                    return;
+                }
+            }
             if let Some(size) = self.quorum_set.deciding_size() {
                 self.grant_by_size(position, size);
                 return;
@@ -177,6 +210,42 @@ impl<ID: Copy + Ord, V: ProgressPart<P>, P: Copy + Ord, QS: QuorumSet<ID>> VecPr
         }
         self.stat.is_quorum_count = self.stat.is_quorum_count.saturating_add(1);
         self.granted = part;
+    }
+
+    /// Grants what `find_granted` does, by counting the voters of each of two configs.
+    #[inline(always)]
+    fn grant_by_sides(&mut self, position: usize, sides: &Sides)
+        requires within { position < (view self.old).voter_count }
+        requires distinct { IsDistinct ID.eq (keys_of (view self.old).entries) }
+        requires can_count { CanCount ID.eq P.cmp V.part_of QS.is_voter (view self.old) }
+        requires fresh { self.old.positions.stale ≡ false }
+        requires sides { AreSidesOf ID.eq (QS.has_quorum (view self.old).quorum_set)
+            (keys_of self.old.positions.sorted.items) sides.now }
+        ensures { IsScanned ID.eq P.cmp V.part_of QS.has_quorum
+            (view self.old) position (view self.new) }
+    {
+        // This read is for the proof: it shows that the count fits a u64.
+        let _count = self.stat.is_quorum_count;
+        let least = sides.least_size();
+        // No prefix past the position with at most `short` voters is a quorum. If the last voter of
+        // the next longer prefix has at most granted, no prefix is left.
+        let short = least.saturating_sub(1).max(position);
+        if short >= self.voter_count {
+            return;
+        }
+        if !is_below(&self.granted, &self.entries[short].1.part()) {
+            return;
+        }
+        self.stat.is_quorum_count = self.stat.is_quorum_count.saturating_add(1);
+        let len = sides.quorum_len(self.positions.first_ranks(self.voter_count));
+        let last = len.saturating_sub(1).max(position);
+        if last >= self.voter_count {
+            return;
+        }
+        let part = self.entries[last].1.part();
+        if is_below(&self.granted, &part) {
+            self.granted = part;
+        }
     }
 
     /// Grants what `find_granted` does, by quorum tests.

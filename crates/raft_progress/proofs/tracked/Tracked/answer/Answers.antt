@@ -19,6 +19,7 @@ invariant_of-self g c = record {
       c.increase.ensures.ordered c.in-IncreaseTo.id c.in-IncreaseTo.value c.increase.result g.V.PartialOrd.partial_cmp
       c.increase.ensures.step.values
       ∣₁;
+  sides_fit = c.args.self.now.sides_fit;
 }
 
 pub returns-in-Update : goal.returns-in-Update

@@ -42,8 +42,8 @@ returns-in-Some-clause-step g c = record {
   answered = record { refused = λ r. refl; done = λ r. absurd (true≢false r); tells = tt };
 }
 
-pub returns-in_ok-upgraded-in-None-clause-step : goal.returns-in_ok-upgraded-in-None-clause-step
-returns-in_ok-upgraded-in-None-clause-step g c = record {
+pub returns-in_ok-sides-in-None-clause-step : goal.returns-in_ok-sides-in-None-clause-step
+returns-in_ok-sides-in-None-clause-step g c = record {
   values = (
     refl,
     (
@@ -76,6 +76,14 @@ returns-in_ok-upgraded-in-None-clause-step g c = record {
   };
 }
 
+pub sides_of-requires-clause-known : goal.sides_of-requires-clause-known
+sides_of-requires-clause-known g c κs within =
+    (ready_upgraded g.NID.PartialEq.eq g.NID.Ord.cmp g.P.Ord.cmp g.V.ProgressPart.part_of c.args.next c.args.configs c.args.learners.now
+    c.requires.voters c.requires.configs c.requires.are_learners g.V.Clone.is_clone c.args.default
+    ((state g.NID.PartialEq.eq (view c.args.self.now.progress)).value) (view c.in_ok-upgraded-in-None.upgraded)
+    c.in_ok-upgraded-in-None.ensures.ordered
+    c.in_ok-upgraded-in-None.ensures.made).counts_by.known
+
 pub invariant_of-self : goal.invariant_of-self
 invariant_of-self g c = record {
   ready = ∣
@@ -85,4 +93,5 @@ invariant_of-self g c = record {
       c.in_ok-upgraded-in-None.ensures.ordered
       c.in_ok-upgraded-in-None.ensures.made
       ∣₁;
+  sides_fit = c.in_ok-sides-in-None.ensures;
 }

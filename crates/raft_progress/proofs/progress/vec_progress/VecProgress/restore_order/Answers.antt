@@ -61,6 +61,11 @@ find_granted-requires-clause-can_count g c = λ counts.
     c.requires.can_count counts c.if-position-self.false high c.move_voter_up-to.result (view c.move_voter_up-to.new.self)
     c.move_voter_up-to.ensures.risen
 
+pub find_granted-requires-clause-sides : goal.find_granted-requires-clause-sides
+find_granted-requires-clause-sides g c = λ s is fresh.
+    rw (c.move_voter_up-to.ensures.risen.group.quorum_set, c.move_voter_up-to.ensures.ids)
+    (c.requires.sides s is (sym c.move_voter_up-to.ensures.stale ∙ fresh))
+
 pub returns-then-not-is_below-2 : goal.returns-then-not-is_below-2
 returns-then-not-is_below-2 g c =
     let e = element_at c.args.self.now.entries.items c.args.position c.requires.within in

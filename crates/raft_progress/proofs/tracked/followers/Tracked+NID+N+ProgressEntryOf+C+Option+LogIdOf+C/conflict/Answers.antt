@@ -34,6 +34,7 @@ invariant_of-self g c =
           (record { membership = c.args.self.now.membership; progress = view (c.get_mut.follows.lender next) })
           c.args.self.now.ready id entry next known kept (λ i. record { membership = c.args.self.now.membership; progress = is i })
           ∣₁;
+      sides_fit = c.args.self.now.sides_fit;
     }
 
 pub returns-in-Some : goal.returns-in-Some
