@@ -1,7 +1,7 @@
 //! Handlers with each allocation refused in turn, or all of them.
 
 use crate::candidate::candidate;
-use crate::leader::{LeaderOf, Led};
+use crate::leader::{LIFE, LeaderOf, Led, Right, SNAPSHOT, Step, snapshotted};
 use crate::states::{Entry, Row, StateOf, entries, entry_of_members, follower, id, members, voter};
 use crate::vote::{ROWS, answers};
 use raft_base::{EmptyNode, LeaderAdv, LeaderId, LeaderKind, VoteIn};
@@ -12,7 +12,7 @@ use raft_handlers::{
 };
 use raft_members::{ChangeMembers, ChangeMembershipErrorOf, StoredMembershipOf};
 use raft_state::SnapshotMetaOf;
-use raft_testing::allocations::{Allocation, is_free_on, is_swept};
+use raft_testing::allocations::{Allocation, is_free, is_free_on, is_swept, refuse_each};
 use raft_testing::memory::holds;
 use std::alloc::{AllocError, Global};
 use std::collections::BTreeSet;
@@ -275,6 +275,30 @@ fn allocations_of_a_leader(rt: HostRuntime) -> Result<(), Fail> {
     Ok(())
 }
 
+/// Whether a leader that is elected in a state meets each row without an allocation. Prints a line.
+///
+/// No closure of `is_free_on`: it would have to show there what `fails` requires.
+fn is_life_free<K: LeaderKind<u64>>(
+    rt: &impl Print,
+    alloc: Global,
+    state: Result<StateOf<K>, HandlerError>,
+    rows: &[(&'static str, Step, Right)],
+) -> io::Result<bool> {
+    let name = "Leader::{next_request, handle_response, handle_flushed, give_up, commit}";
+    let mut led = in_memory(Led::<K>::new(in_memory(state)?))?;
+    refuse_each(alloc);
+    let is_right = led.fails(rows).is_none();
+    is_free(rt, alloc, name, is_right)
+}
+
+/// Whether a leader sends, takes responses and commits without an allocation, with all of its log
+/// and with a snapshot.
+fn is_leader_free<K: LeaderKind<u64>>(rt: &impl Print, alloc: Global) -> io::Result<bool> {
+    let whole = is_life_free::<K>(rt, alloc, Ok(voter::<K>(alloc)?), LIFE)?;
+    let snapshot = is_life_free::<K>(rt, alloc, snapshotted::<K>(alloc), SNAPSHOT)?;
+    Ok(whole && snapshot)
+}
+
 #[test]
 fn no_allocations(rt: HostRuntime) -> Result<(), Fail> {
     let alloc = rt.alloc();
@@ -283,5 +307,6 @@ fn no_allocations(rt: HostRuntime) -> Result<(), Fail> {
         let vote = |state: &mut State| holds(answers::<LeaderAdv>(state, row));
         assert!(rt; is_free_on(&rt, alloc, "handle_vote_request", state, vote)?);
     }
+    assert!(rt; is_leader_free::<LeaderAdv>(&rt, alloc)?);
     Ok(())
 }
