@@ -4,9 +4,9 @@
 use crate::deed::Deed;
 use crate::fault::Fault;
 use crate::server::Server;
-use crate::types::{Entry, Leader, SnapshotMeta, State, Vote, end};
+use crate::types::{Changes, Entry, Leader, SnapshotMeta, State, Vote, end};
 use raft_base::LogStateReader;
-use raft_handlers::{HandlerError, Stored, restart_server};
+use raft_handlers::{HandlerError, SnapshotChanges, Stored, restart_server};
 
 impl Server {
     /// Returns the place of an index on disk.
@@ -20,28 +20,34 @@ impl Server {
         (self.state.get_log_id(index) == Some(entry.log_id)).then_some(entry)
     }
 
-    /// Writes to disk what a step has changed in the log: removes what is truncated, and adds those
-    /// of the entries that are new.
-    pub fn write(&mut self, entries: &[Entry]) -> Result<(), HandlerError> {
-        let truncated = self.trim();
-        if truncated > 0 {
-            self.deed = Some(Deed::Truncates(truncated));
+    /// Writes to disk what a request with these entries has changed in the log: removes what is
+    /// truncated, and adds the entries that are new.
+    pub fn write(&mut self, entries: &[Entry], changes: &Changes) -> Result<(), HandlerError> {
+        if let Some(index) = changes.truncated_from {
+            let kept = self.place(index);
+            self.deed = Some(Deed::Truncates(self.disk.len().saturating_sub(kept)));
+            self.disk.truncate(kept);
         }
-        let lacking = self.place(end(self.last())).saturating_sub(self.disk.len());
-        let (_, new) = entries.split_at(entries.len().saturating_sub(lacking));
+        let (_, new) = entries.split_at(entries.len().saturating_sub(changes.new));
         self.disk.extend_with_clones(new)?;
         Ok(())
     }
 
-    /// Removes from disk what is truncated or purged in the log. Returns how many entries it was.
-    pub fn trim(&mut self) -> usize {
-        let before = self.disk.len();
-        let state = &self.state;
-        self.disk.retain(|entry| {
-            let index = entry.log_id.index;
-            state.purged_next <= index && state.get_log_id(index) == Some(entry.log_id)
-        });
-        before.saturating_sub(self.disk.len())
+    /// Writes to disk what a snapshot has changed in the log, if it was installed.
+    pub fn write_snapshot(&mut self, changes: SnapshotChanges) {
+        if changes.installed {
+            self.deed = Some(Deed::Installs);
+        }
+        if changes.drops_log {
+            self.disk.clear();
+        }
+        self.trim();
+    }
+
+    /// Removes from disk what is purged in the log.
+    fn trim(&mut self) {
+        let purged_next = self.state.purged_next;
+        self.disk.retain(|entry| purged_next <= entry.log_id.index);
     }
 
     /// Takes a snapshot of what is committed, and purges all of it but the last few entries. No

@@ -1,6 +1,5 @@
 //! What a follower does with what its leader sends.
 
-use crate::deed::Deed;
 use crate::fault::Fault;
 use crate::server::Server;
 use crate::types::{AppendEntries, InstallSnapshot, LeaderId, Response, Vote};
@@ -17,8 +16,8 @@ impl Server {
                 outcome: Outcome::Matches(last),
             });
         }
-        let response = handle_append_entries(&mut self.state, request)?;
-        self.write(&request.entries)?;
+        let (response, changes) = handle_append_entries(&mut self.state, request)?;
+        self.write(&request.entries, &changes)?;
         Ok(response)
     }
 
@@ -31,12 +30,8 @@ impl Server {
                 outcome: Outcome::Matches(request.meta.last_log_id),
             });
         }
-        let purged_next = self.state.purged_next;
-        let response = handle_install_snapshot(&mut self.state, request)?;
-        if self.state.purged_next > purged_next {
-            self.trim();
-            self.deed = Some(Deed::Installs);
-        }
+        let (response, changes) = handle_install_snapshot(&mut self.state, request)?;
+        self.write_snapshot(changes);
         Ok(response)
     }
 

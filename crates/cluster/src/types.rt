@@ -74,6 +74,9 @@ pub type InstallSnapshot = raft_handlers::InstallSnapshot<
 /// A follower's response to a leader.
 pub type Response = raft_handlers::Response<LeaderId, CommittedLeaderId>;
 
+/// What a request to append entries has changed.
+pub type Changes = raft_handlers::Changes<CommittedLeaderId>;
+
 /// Returns the index after a log id, or 0 after none.
 pub fn end(last: Option<LogId>) -> u64 {
     match last {

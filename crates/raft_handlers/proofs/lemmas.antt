@@ -15,3 +15,4 @@ pub mod TakeLemmas
 pub mod TermLemmas
 pub mod TrackedLemmas
 pub mod VoteLemmas
+pub mod WrittenLemmas

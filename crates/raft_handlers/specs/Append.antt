@@ -65,18 +65,6 @@ use Rattle.raft_state.specs.declared.accepted.AcceptedIn.{AcceptedIn}
 use Rattle.raft_state.specs.declared.entry.EntryOf.{EntryOf}
 use Rattle.raft_state.specs.declared.raft_state.RaftStateIn.{RaftStateIn}
 
--- an answer that the log matches, up to a log id of which this holds
-abbrev pub IfMatches : {L C : Type 0} → Outcome L C → (Option (LogIdOf C) → Type 0) → Type 0
-IfMatches (Matches upto) p = p upto
-IfMatches (Conflict at) p = Unit {0}
-IfMatches (HigherVote vote) p = Unit {0}
-
--- an answer that the log conflicts, at an index of which this holds
-abbrev pub IfConflict : {L C : Type 0} → Outcome L C → (ℕ → Type 0) → Type 0
-IfConflict (Matches upto) p = Unit {0}
-IfConflict (Conflict at) p = p at
-IfConflict (HigherVote vote) p = Unit {0}
-
 -- an answer that the leader is not followed, because of a vote of which this holds
 abbrev pub IfHigherVote : {L C : Type 0} → Outcome L C → (VoteIn L → Type 0) → Type 0
 IfHigherVote (Matches upto) p = Unit {0}
@@ -199,14 +187,14 @@ pub record IsLogKept {K N I L C : Type 0} (old new : RaftStateIn K N I L C) : Ty
   pub memberships : new.membership_state ≡ old.membership_state
   pub accepted : new.accepted ≡ old.accepted
 
--- or they are cut off at the first of these entries
+-- the log, the memberships and what is accepted are cut off at the first of these entries
 pub record IsCutBefore {K N I L C D : Type 0} (cmp : C → C → Ordering) (es : List (EntryOf C K N D))
     (old new : RaftStateIn K N I L C) : Type 0 where
   pub log : full_log new.log_ids ≡ log_before es old
   pub memberships : new.membership_state ≡ memberships_before es old
   pub accepted : new.accepted ≡ accepted_before cmp es old
 
--- or the log has the entries
+-- the log has these entries, and the memberships and what is accepted are those with them
 pub record HasReplaced {K N I L C D : Type 0} (ord : OrdMembers C) (id_eq : K → K → Bool)
     (same : N → N → Bool) (es : List (EntryOf C K N D)) (old new : RaftStateIn K N I L C) : Type 0 where
   pub log : IsTrue (same_log ord.eq (full_log new.log_ids) (log_with_new (full_log old.log_ids) es))

@@ -12,3 +12,4 @@ pub mod Restart
 pub mod Snapshot
 pub mod Start
 pub mod Vote
+pub mod Written

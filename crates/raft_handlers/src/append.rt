@@ -5,11 +5,13 @@ ghost use Rattle.std.specs.Set.{ClonesAreEqual};
 ghost use Rattle.raft_handlers.specs.Append.{has_entry, least, take_tests, Answers, IfHigherVote, IsConflict, Refused, Refuses, Took};
 ghost use Rattle.raft_handlers.specs.Follow.{is_followed, vote_heard};
 ghost use Rattle.raft_handlers.specs.Honest.{IsHonest};
+ghost use Rattle.raft_handlers.specs.Written.{no_changes, Writes, WritesLog};
 ghost use Rattle.raft_handlers.specs.declared.error.HandlerError.TheVariants.{OutOfMemory};
-ghost use Rattle.raft_handlers.specs.declared.message.Outcome.TheVariants.{HigherVote};
+ghost use Rattle.raft_handlers.specs.declared.message.Outcome.TheVariants.{HigherVote, Matches};
 ghost use Rattle.raft_state.specs.raft_state.Sound.{purged_or_logged, IsSound};
 ghost use Rattle.raft_state.specs.raft_state.VoteAndLog.{vote_of};
 
+use crate::changes::Changes;
 use crate::error::HandlerError;
 use crate::laws::honest_request_may_be_taken;
 use crate::log::{append_new, are_in_order, commit, cut, has};
@@ -24,9 +26,12 @@ use raft_state::{EntryOf, RaftStateIn, VoteStateReader};
 /// conflicts with the entries, appends what is new, and commits the lesser one of the leader's
 /// committed log id and the last log id of the request.
 ///
-/// Write all of it to disk before you answer, the vote first. After an error the vote is the
-/// leader's, and the log may be truncated at the first new entry or have the new entries already
-/// (`refuses`): write that to disk too. What is committed stays.
+/// Returns the response, and what has changed. Write that to disk before you answer, the vote first.
+///
+/// After an error the vote is the leader's, and the log may be truncated at the first new entry or
+/// have the new entries already (`refuses`). What is committed stays. Write the vote and the log to
+/// disk as the state has them, or treat the error as a crash, and restart from the disk. Both are
+/// right, because no answer was sent.
 pub fn handle_append_entries<
     NID: NodeId,
     N: Node,
@@ -36,22 +41,27 @@ pub fn handle_append_entries<
 >(
     state: &mut State<NID, N, I, L>,
     request: &AppendEntries<L, L::Committed, NID, N, D>,
-) -> Result<Response<L, L::Committed>, HandlerError>
+) -> Result<(Response<L, L::Committed>, Changes<L::Committed>), HandlerError>
     requires clones_are_equal { ClonesAreEqual N.eq N.is_clone }
-    ensures leader { IfOk result (λ response.
-        response.leader_id ≡ L.committed request.now.leader_id) }
-    ensures request { IfOk result (λ response. response.request ≡ request.now.request) }
+    ensures leader { IfOk result (λ made.
+        made.0.leader_id ≡ L.committed request.now.leader_id) }
+    ensures request { IfOk result (λ made. made.0.request ≡ request.now.request) }
     ensures vote { state.new.vote ≡ vote_heard L.order request.now.leader_id state.old }
     ensures not_followed { is_followed L.order request.now.leader_id state.old ≡ false →
-        result ≡ Ok (record {
-          leader_id = L.committed request.now.leader_id;
-          request = request.now.request;
-          outcome = HigherVote (vote_of state.old);
-        }) }
-    ensures followed { IfOk result (λ response. IfHigherVote response.outcome
+        result ≡ Ok (
+          record {
+            leader_id = L.committed request.now.leader_id;
+            request = request.now.request;
+            outcome = HigherVote (vote_of state.old);
+          },
+          no_changes,
+        ) }
+    ensures followed { IfOk result (λ made. IfHigherVote made.0.outcome
         (λ _. is_followed L.order request.now.leader_id state.old ≡ false)) }
-    ensures answers { IfOk result (λ response. Answers L.Committed.Ord NID.eq N.eq request.now
-        response.outcome state.old state.new) }
+    ensures answers { IfOk result (λ made. Answers L.Committed.Ord NID.eq N.eq request.now
+        made.0.outcome state.old state.new) }
+    ensures writes { IfOk result (λ made. Writes L.Committed.Ord L.eq request.now.entries.items
+        made.0.outcome made.1 state.old state.new) }
     ensures refuses { IfErr result (λ e. Refuses L.Committed.Ord NID.eq N.eq request.now e
         state.old state.new) }
     ensures honest { IsSound L.Committed.eq L.Committed.cmp state.old →
@@ -71,30 +81,42 @@ pub fn handle_append_entries<
     let promised = *state.vote_ref();
     // Called for the proof alone: an honest request is refused only if an allocation fails.
     honest_request_may_be_taken(state, request);
-    if !follow(state, request.leader_id) {
-        return Ok(Response {
+    let Some(is_new) = follow(state, request.leader_id) else {
+        let response = Response {
             leader_id,
             request: request.request,
             outcome: Outcome::HigherVote(promised),
-        });
-    }
-    let outcome = match_log(state, request)?;
-    Ok(Response {
+        };
+        let changes = Changes {
+            vote: false,
+            truncated_from: None,
+            new: 0,
+            committed: None,
+        };
+        return Ok((response, changes));
+    };
+    let (outcome, mut changes) = match_log(state, request)?;
+    changes.vote = is_new;
+    let response = Response {
         leader_id,
         request: request.request,
         outcome,
-    })
+    };
+    Ok((response, changes))
 }
 
-/// Makes the log match a leader's as far as the request says.
+/// Makes the log match a leader's as far as the request says. Returns the outcome, and what has
+/// changed without the vote.
 fn match_log<NID: NodeId, N: Node, I: Instant, L: Drop, C: Ord + Copy + Drop, D>(
     state: &mut RaftStateIn<NID, N, I, L, C>,
     request: &AppendEntries<L, C, NID, N, D>,
-) -> Result<Outcome<L, C>, HandlerError>
+) -> Result<(Outcome<L, C>, Changes<C>), HandlerError>
     requires clones_are_equal { ClonesAreEqual N.eq N.is_clone }
-    ensures followed { IfOk result (λ outcome. IfHigherVote outcome (λ _. ⊥)) }
-    ensures answers { IfOk result (λ outcome.
-        Answers C.Ord NID.eq N.eq request.now outcome state.old state.new) }
+    ensures followed { IfOk result (λ made. IfHigherVote made.0 (λ _. ⊥)) }
+    ensures answers { IfOk result (λ made.
+        Answers C.Ord NID.eq N.eq request.now made.0 state.old state.new) }
+    ensures writes { IfOk result (λ made. WritesLog C.Ord request.now.entries.items made.0 made.1
+        state.old state.new) }
     ensures refuses { IfErr result (λ e.
         Refuses C.Ord NID.eq N.eq request.now e state.old state.new) }
     ensures rest { state.new ≡ record state.old {
@@ -106,13 +128,19 @@ fn match_log<NID: NodeId, N: Node, I: Instant, L: Drop, C: Ord + Copy + Drop, D>
     ensures sound { IsSound C.eq C.cmp state.old → IsSound C.eq C.cmp state.new }
 {
     if let Some(at) = conflict_of(state, request.prev) {
-        cut(state, at)?;
-        return Ok(Outcome::Conflict(at));
+        let truncated_from = cut(state, at)?;
+        let changes = Changes {
+            vote: false,
+            truncated_from,
+            new: 0,
+            committed: None,
+        };
+        return Ok((Outcome::Conflict(at), changes));
     }
     let last = request.last_log_id();
     let committed = least(request.committed, last);
-    take_entries(state, request.prev, &request.entries, committed)?;
-    Ok(Outcome::Matches(last))
+    let changes = take_entries(state, request.prev, &request.entries, committed)?;
+    Ok((Outcome::Matches(last), changes))
 }
 
 /// The index of a log id, if the log does not have it and its index is not purged.
@@ -136,9 +164,11 @@ fn take_entries<NID: NodeId, N: Node, I: Instant, L: Drop, C: Ord + Copy + Drop,
     prev: Option<LogIdOf<C>>,
     entries: &[EntryOf<C, NID, N, D>],
     committed: Option<LogIdOf<C>>,
-) -> Result<(), HandlerError>
+) -> Result<Changes<C>, HandlerError>
     requires clones_are_equal { ClonesAreEqual N.eq N.is_clone }
     requires prev { IsTrue (purged_or_logged C.eq state.old prev) }
+    ensures writes { IfOk result (λ changes. WritesLog C.Ord entries.now (Matches prev) changes
+        state.old state.new) }
     ensures took { OnOk result
         (Took C.Ord NID.eq N.eq prev entries.now committed state.old state.new) }
     ensures refused { IfErr result (λ e. Refused C.Ord NID.eq N.eq
@@ -156,8 +186,15 @@ fn take_entries<NID: NodeId, N: Node, I: Instant, L: Drop, C: Ord + Copy + Drop,
         return Err(HandlerError::NotInOrder);
     }
     let place = first_new(state, entries);
-    append_new(state, &entries[place..])?;
-    commit(state, committed)
+    let new = &entries[place..];
+    let truncated_from = append_new(state, new)?;
+    let committed = commit(state, committed)?;
+    Ok(Changes {
+        vote: false,
+        truncated_from,
+        new: new.len(),
+        committed,
+    })
 }
 
 /// The lesser one of two log ids that may be absent.

@@ -7,6 +7,7 @@
 
 pub mod append;
 pub mod candidate;
+pub mod changes;
 pub mod error;
 pub mod laws;
 pub mod leader;
@@ -20,6 +21,7 @@ pub mod vote;
 
 pub use append::handle_append_entries;
 pub use candidate::{Candidate, may_lead};
+pub use changes::{Changes, SnapshotChanges};
 pub use error::HandlerError;
 pub use leader::{ChangeError, Leader};
 pub use message::{AppendEntries, InstallSnapshot, Outcome, Response, VoteRequest, VoteResponse};

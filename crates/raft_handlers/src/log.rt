@@ -1,10 +1,11 @@
 //! The end of a log, replaced by new entries.
-ghost use Rattle.std.specs.Prelude.{◌≡◌, ◌&&◌, false, IsTrue, IfErr, OnOk, OnErr, Option, Some, nat_eq};
+ghost use Rattle.std.specs.Prelude.{◌≡◌, ◌&&◌, false, IsTrue, IfErr, IfOk, OnOk, OnErr, Option, Some, nat_eq};
 ghost use Rattle.std.specs.Set.{ClonesAreEqual};
 ghost use Rattle.raft_base.specs.LogId.{next_index};
 ghost use Rattle.raft_base.specs.declared.log_id.LogIdOf.{LogIdOf};
 ghost use Rattle.raft_handlers.specs.Append.{IsCut, Replaces, Stops};
-ghost use Rattle.raft_handlers.specs.Entries.{are_in_order, commit_tests, end_tests, ends_before, has_past_committed, may_append_after, may_cut, may_extend, new_tests, tests_hold, RefusedUnless};
+ghost use Rattle.raft_handlers.specs.Entries.{are_in_order, commit_tests, end_tests, ends_before, entry_ids, has_past_committed, may_append_after, may_cut, may_extend, new_tests, tests_hold, RefusedUnless};
+ghost use Rattle.raft_handlers.specs.Written.{risen_to, Truncates, WritesEntries};
 ghost use Rattle.raft_state.specs.log_id_list.LogConditions.{follows};
 ghost use Rattle.raft_state.specs.raft_state.Commit.{state_after_commit, state_may_commit};
 ghost use Rattle.raft_state.specs.raft_state.Sound.{purged_or_logged, IsSound};
@@ -14,14 +15,15 @@ use raft_base::order::{index_below, log_id_below};
 use raft_base::{Instant, LogIdOf, LogIdOptionExt, LogStateReader, Node, NodeId};
 use raft_state::{EntryOf, RaftPayload, RaftStateIn};
 
-/// Truncates the log at an index, unless the log ends before it. Refuses to truncate what is
-/// committed.
+/// Truncates the log at an index, unless the log ends before it, and returns the index if it did.
+/// Refuses to truncate what is committed.
 ///
 /// After an error nothing has changed.
 pub(crate) fn cut<NID: NodeId, N: Node, I: Instant, L: Drop, C: Ord + Copy + Drop>(
     state: &mut RaftStateIn<NID, N, I, L, C>,
     since: u64,
-) -> Result<(), HandlerError>
+) -> Result<Option<u64>, HandlerError>
+    ensures truncated { IfOk result (λ from. Truncates from state.old state.new) }
     ensures cut { OnOk result (IsCut C.Ord since state.old state.new) }
     ensures refused { IfErr result (RefusedUnless
         (record tests_hold { keeps = may_cut C.cmp since state.old })) }
@@ -31,13 +33,13 @@ pub(crate) fn cut<NID: NodeId, N: Node, I: Instant, L: Drop, C: Ord + Copy + Dro
     // Read for the proof alone: by its contract the keys are in order.
     let _keys = state.log_ids.key_log_ids();
     if ends_before(state, since) {
-        return Ok(());
+        return Ok(None);
     }
     if !state.can_truncate_log(since) {
         return Err(HandlerError::TruncatesCommitted);
     }
     state.truncate_log(since)?;
-    Ok(())
+    Ok(Some(since))
 }
 
 /// Whether the log has no index from this one on.
@@ -51,14 +53,17 @@ fn ends_before<NID: NodeId, N: Node, I: Instant, L: Drop, C: Ord + Copy + Drop>(
     index_below(state.last_log_id().copied().index(), Some(since))
 }
 
-/// Puts new entries in place of the log from the index of the first one on.
+/// Puts new entries in place of the log from the index of the first one on, and returns that index
+/// if the log was truncated there.
 ///
 /// After an error the log is as it was, or truncated there.
 pub(crate) fn append_new<NID: NodeId, N: Node, I: Instant, L: Drop, C: Ord + Copy + Drop, D>(
     state: &mut RaftStateIn<NID, N, I, L, C>,
     new: &[EntryOf<C, NID, N, D>],
-) -> Result<(), HandlerError>
+) -> Result<Option<u64>, HandlerError>
     requires clones_are_equal { ClonesAreEqual N.eq N.is_clone }
+    ensures written { IfOk result (λ from.
+        WritesEntries C.eq from (entry_ids new.now) state.old state.new) }
     ensures replaced { OnOk result (Replaces C.Ord NID.eq N.eq new.now state.old state.new) }
     ensures refused { IfErr result (RefusedUnless (new_tests C.cmp new.now state.old)) }
     ensures stopped { OnErr result (Stops C.Ord new.now state.old state.new) }
@@ -70,14 +75,14 @@ pub(crate) fn append_new<NID: NodeId, N: Node, I: Instant, L: Drop, C: Ord + Cop
     ensures sound { IsSound C.eq C.cmp state.old → IsSound C.eq C.cmp state.new }
 {
     let Some(first) = new.first() else {
-        return Ok(());
+        return Ok(None);
     };
-    cut(state, first.log_id.index)?;
+    let truncated_from = cut(state, first.log_id.index)?;
     if !may_extend(state, new) {
         return Err(refusal(state, new));
     }
     state.append_entries(new)?;
-    Ok(())
+    Ok(truncated_from)
 }
 
 /// Whether entries may be appended to the log. Most continue it under its last leader, and store no
@@ -182,14 +187,16 @@ fn is_successor<C: Ord + Copy>(last: Option<LogIdOf<C>>, id: LogIdOf<C>) -> bool
     }
 }
 
-/// Commits up to a log id, if it is past what is committed. Refuses if the log does not have it, or
-/// if the effective membership does not allow it.
+/// Commits up to a log id, if it is past what is committed, and returns the log id if it did.
+/// Refuses if the log does not have it, or if the effective membership does not allow it.
 ///
 /// After an error nothing has changed.
 pub(crate) fn commit<NID: NodeId, N: Node, I: Instant, L: Drop, C: Ord + Copy + Drop>(
     state: &mut RaftStateIn<NID, N, I, L, C>,
     upto: Option<LogIdOf<C>>,
-) -> Result<(), HandlerError>
+) -> Result<Option<LogIdOf<C>>, HandlerError>
+    ensures risen { IfOk result (λ risen.
+        risen ≡ risen_to C.cmp state.old.committed state.new.committed) }
     ensures may { OnOk result (IsTrue (state_may_commit C.cmp upto state.old)) }
     ensures has { OnOk result (IsTrue (has_past_committed C.eq C.cmp upto state.old)) }
     ensures ok { OnOk result (state.new ≡ state_after_commit C.cmp upto state.old) }
@@ -202,7 +209,7 @@ pub(crate) fn commit<NID: NodeId, N: Node, I: Instant, L: Drop, C: Ord + Copy + 
     ensures sound { IsSound C.eq C.cmp state.old → IsSound C.eq C.cmp state.new }
 {
     if !log_id_below(state.committed, upto) {
-        return Ok(());
+        return Ok(None);
     }
     if !state.is_logged(&upto) {
         return Err(HandlerError::CommittedNotLogged);
@@ -211,7 +218,7 @@ pub(crate) fn commit<NID: NodeId, N: Node, I: Instant, L: Drop, C: Ord + Copy + 
         return Err(HandlerError::MembershipNotInOrder);
     }
     state.update_committed(&upto)?;
-    Ok(())
+    Ok(upto)
 }
 
 /// Whether the log has a log id, or its index is purged. Most that a follower is asked for are at

@@ -1,8 +1,10 @@
 //! A voter: the answer to a candidate that asks for a vote, and the vote for a leader.
-ghost use Rattle.std.specs.Prelude.{◌≡◌};
+ghost use Rattle.std.specs.Prelude.{◌≡◌, IfSome, is_some, not};
+ghost use Rattle.raft_handlers.specs.Campaign.{same_vote};
 ghost use Rattle.raft_handlers.specs.Follow.{is_followed, vote_heard};
 ghost use Rattle.raft_handlers.specs.Vote.{Grants};
 ghost use Rattle.raft_state.specs.raft_state.Sound.{IsSound};
+ghost use Rattle.raft_state.specs.raft_state.VoteAndLog.{vote_of};
 
 use crate::message::{VoteRequest, VoteResponse};
 use crate::state::State;
@@ -34,22 +36,30 @@ pub fn handle_vote_request<NID: NodeId, N: Node, I: Instant, L: LeaderIdentity<I
     }
 }
 
-/// Promises the vote of a leader that has sent a request, and returns whether the leader is
-/// followed: whether its vote, which is committed, is at least the present one. Otherwise nothing
-/// changes.
+/// Promises the vote of a leader that has sent a request, if the leader is followed: if its vote,
+/// which is committed, is at least the present one. Returns whether the vote is new, or `None` if
+/// the leader is not followed. Then nothing changes.
 pub(crate) fn follow<NID: NodeId, N: Node, I: Instant, L: LeaderIdentity<Id = NID> + Drop>(
     state: &mut State<NID, N, I, L>,
     leader_id: L,
-) -> bool
-    ensures answer { result ≡ is_followed L.order leader_id state.old }
+) -> Option<bool>
+    ensures follows { is_some result ≡ is_followed L.order leader_id state.old }
+    ensures answer { IfSome result (λ is_new.
+        is_new ≡ not (same_vote L.eq (vote_of state.new) (vote_of state.old))) }
     ensures heard { state.new ≡ record state.old {
       vote = vote_heard L.order leader_id state.old;
     } }
     ensures sound { IsSound L.Committed.eq L.Committed.cmp state.old →
         IsSound L.Committed.eq L.Committed.cmp state.new }
 {
-    state.promise(VoteIn {
+    let vote = VoteIn {
         leader_id,
         committed: true,
-    })
+    };
+    // Most requests are of a leader that is followed already.
+    if vote == *state.vote_ref() {
+        *state.vote.get_mut() = vote;
+        return Some(false);
+    }
+    state.promise(vote).then_some(true)
 }

@@ -5,7 +5,7 @@ use crate::states::{
     Answer, Row, StateOf, due, entries, entry_of_members, follower, id, is_at, members,
 };
 use raft_base::{LeaderAdv, LeaderKind, LeaderStd, VoteOf};
-use raft_handlers::{AppendEntries, HandlerError, Response, handle_append_entries};
+use raft_handlers::{AppendEntries, Changes, HandlerError, handle_append_entries};
 use raft_members::EffectiveMembershipOf;
 use raft_state::MembershipStateOf;
 use raft_testing::memory::on;
@@ -15,18 +15,27 @@ use std::test::Fail;
 /// What the leader 1 of a term sends: `prev`, blank entries, and what it has committed.
 type Sent = (u64, Row, &'static [(u64, u64)], Row);
 
+/// What the follower writes to disk: the index of a truncation, how many entries are new, and the
+/// committed log id if it has risen.
+type Written = (Option<u64>, usize, Row);
+
+/// Nothing is written, or the request is refused.
+const NOTHING: Written = (None, 0, None);
+
 /// The last log id of the follower.
 const END: Row = Some((2, 3));
 
 /// What the follower has committed.
 const FIRST: Row = Some((1, 1));
 
-/// Requests to the follower, what it answers, and then its last log id and the committed one.
-const ROWS: &[(&str, Sent, Answer, Row, Row)] = &[
+/// Requests to the follower, what it answers and writes, and then its last log id and the committed
+/// one.
+const ROWS: &[(&str, Sent, Answer, Written, Row, Row)] = &[
     (
         "a heartbeat commits what both logs have",
         (3, END, &[], Some((2, 2))),
         Answer::Matches(END),
+        (None, 0, Some((2, 2))),
         END,
         Some((2, 2)),
     ),
@@ -34,6 +43,7 @@ const ROWS: &[(&str, Sent, Answer, Row, Row)] = &[
         "new entries are appended, and nothing is committed past them",
         (3, END, &[(3, 4), (3, 5)], Some((3, 9))),
         Answer::Matches(Some((3, 5))),
+        (None, 2, Some((3, 5))),
         Some((3, 5)),
         Some((3, 5)),
     ),
@@ -41,6 +51,7 @@ const ROWS: &[(&str, Sent, Answer, Row, Row)] = &[
         "a request that comes twice truncates nothing",
         (3, Some((1, 0)), &[(1, 1)], None),
         Answer::Matches(FIRST),
+        NOTHING,
         END,
         FIRST,
     ),
@@ -48,6 +59,7 @@ const ROWS: &[(&str, Sent, Answer, Row, Row)] = &[
         "entries from the beginning of the log on need no prev",
         (3, None, &[(1, 0), (1, 1)], END),
         Answer::Matches(FIRST),
+        NOTHING,
         END,
         FIRST,
     ),
@@ -55,6 +67,7 @@ const ROWS: &[(&str, Sent, Answer, Row, Row)] = &[
         "entries take the place of those that conflict",
         (3, FIRST, &[(3, 2)], FIRST),
         Answer::Matches(Some((3, 2))),
+        (Some(2), 1, None),
         Some((3, 2)),
         FIRST,
     ),
@@ -62,6 +75,7 @@ const ROWS: &[(&str, Sent, Answer, Row, Row)] = &[
         "an entry that the log has stays, and the next one is appended",
         (4, Some((2, 2)), &[(2, 3), (4, 4)], Some((2, 3))),
         Answer::Matches(Some((4, 4))),
+        (None, 1, Some((2, 3))),
         Some((4, 4)),
         Some((2, 3)),
     ),
@@ -69,6 +83,7 @@ const ROWS: &[(&str, Sent, Answer, Row, Row)] = &[
         "the log has another log id at the index of prev",
         (3, Some((3, 3)), &[], None),
         Answer::Conflict(3),
+        (Some(3), 0, None),
         Some((2, 2)),
         FIRST,
     ),
@@ -76,6 +91,7 @@ const ROWS: &[(&str, Sent, Answer, Row, Row)] = &[
         "the log ends before prev",
         (3, Some((3, 9)), &[(3, 10)], None),
         Answer::Conflict(9),
+        NOTHING,
         END,
         FIRST,
     ),
@@ -83,6 +99,7 @@ const ROWS: &[(&str, Sent, Answer, Row, Row)] = &[
         "the leader is of an earlier term",
         (2, END, &[(2, 4)], END),
         Answer::HigherVote,
+        NOTHING,
         END,
         FIRST,
     ),
@@ -90,6 +107,7 @@ const ROWS: &[(&str, Sent, Answer, Row, Row)] = &[
         "the entries have a gap, and the vote is the leader's",
         (4, END, &[(4, 5)], None),
         Answer::Refused(HandlerError::NotInOrder),
+        NOTHING,
         END,
         FIRST,
     ),
@@ -97,6 +115,7 @@ const ROWS: &[(&str, Sent, Answer, Row, Row)] = &[
         "the leaders of the entries fall",
         (3, END, &[(1, 4)], None),
         Answer::Refused(HandlerError::NotInOrder),
+        NOTHING,
         END,
         FIRST,
     ),
@@ -104,6 +123,7 @@ const ROWS: &[(&str, Sent, Answer, Row, Row)] = &[
         "what is committed conflicts with an entry",
         (3, Some((1, 0)), &[(3, 1)], None),
         Answer::Refused(HandlerError::TruncatesCommitted),
+        NOTHING,
         END,
         FIRST,
     ),
@@ -111,6 +131,7 @@ const ROWS: &[(&str, Sent, Answer, Row, Row)] = &[
         "what is committed conflicts with prev",
         (3, Some((0, 1)), &[], None),
         Answer::Refused(HandlerError::TruncatesCommitted),
+        NOTHING,
         END,
         FIRST,
     ),
@@ -118,6 +139,7 @@ const ROWS: &[(&str, Sent, Answer, Row, Row)] = &[
         "the log does not have what is to be committed",
         (3, END, &[], Some((2, 1))),
         Answer::Refused(HandlerError::CommittedNotLogged),
+        NOTHING,
         END,
         FIRST,
     ),
@@ -125,19 +147,32 @@ const ROWS: &[(&str, Sent, Answer, Row, Row)] = &[
         "the new entries stay if what is to be committed is refused",
         (4, FIRST, &[(4, 2)], Some((2, 9))),
         Answer::Refused(HandlerError::CommittedNotLogged),
+        NOTHING,
         Some((4, 2)),
         FIRST,
     ),
 ];
+
+/// What the follower says that it writes, after a request of the leader 1 of a term. Its vote is new
+/// if the term is later than 3.
+fn changes<K: LeaderKind<u64>>(term: u64, written: Written) -> Changes<K::Committed> {
+    let (truncated_from, new, committed) = written;
+    Changes {
+        vote: term > 3,
+        truncated_from,
+        new,
+        committed: id::<K>(committed),
+    }
+}
 
 /// Whether a follower answers a request, which has the number 7, as it should, and is then as it
 /// should be. Its vote is that of the leader 1 of term 3, or of a later term that it has heard of.
 fn answers<K: LeaderKind<u64>>(
     state: &mut StateOf<K>,
     alloc: Global,
-    row: &(&str, Sent, Answer, Row, Row),
+    row: &(&str, Sent, Answer, Written, Row, Row),
 ) -> Result<bool, AllocError> {
-    let (_, sent, answer, last, committed) = *row;
+    let (_, sent, answer, written, last, committed) = *row;
     let request = AppendEntries {
         leader_id: VoteOf::<u64, K>::new(sent.0, 1).leader_id,
         request: Some(7),
@@ -146,8 +181,12 @@ fn answers<K: LeaderKind<u64>>(
         committed: id::<K>(sent.3),
     };
     let answered = handle_append_entries(state, &request);
+    let due = match due::<K>(sent.0, answer) {
+        Ok(response) => Ok((response, changes::<K>(sent.0, written))),
+        Err(refusal) => Err(refusal),
+    };
     let are_right = [
-        answered == due::<K>(sent.0, answer),
+        answered == due,
         *state.vote.get() == VoteOf::<u64, K>::new_committed(sent.0.max(3), 1),
         is_at::<K>(state, last, committed),
     ];
@@ -179,7 +218,7 @@ fn entries_are_answered(rt: HostRuntime) -> Result<(), Fail> {
 fn append_members<K: LeaderKind<u64>>(
     state: &mut StateOf<K>,
     alloc: Global,
-) -> Result<Response<K::Leader, K::Committed>, HandlerError> {
+) -> Result<Changes<K::Committed>, HandlerError> {
     let at = Some((3, 4));
     let request = AppendEntries {
         leader_id: VoteOf::<u64, K>::new(3, 1).leader_id,
@@ -188,7 +227,8 @@ fn append_members<K: LeaderKind<u64>>(
         entries: entry_of_members::<K>(alloc, at)?,
         committed: id::<K>(at),
     };
-    handle_append_entries(state, &request)
+    let (_response, changes) = handle_append_entries(state, &request)?;
+    Ok(changes)
 }
 
 /// Whether a membership is effective once it is appended, and committed with its entry.
@@ -196,16 +236,17 @@ fn takes_members<K: LeaderKind<u64>>(
     state: &mut StateOf<K>,
     alloc: Global,
 ) -> Result<bool, HandlerError> {
-    let _response = append_members::<K>(state, alloc)?;
+    let written = append_members::<K>(state, alloc)?;
     let at = id::<K>(Some((3, 4)));
     let are_right = [
+        written == changes::<K>(3, (None, 1, Some((3, 4)))),
         state.is_voter(&2),
         *state.membership_state.effective().log_id() == at,
         *state.membership_state.committed().log_id() == at,
         state.committed == at,
         state.is_sound(),
     ];
-    Ok(are_right == [true; 5])
+    Ok(are_right == [true; 6])
 }
 
 #[test]

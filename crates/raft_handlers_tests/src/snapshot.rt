@@ -3,7 +3,7 @@
 use crate::asserts::assert_right;
 use crate::states::{Answer, Row, StateOf, due, follower, id, is_at};
 use raft_base::{EmptyNode, LeaderAdv, LeaderKind, LeaderStd, VoteOf};
-use raft_handlers::{HandlerError, InstallSnapshot, handle_install_snapshot};
+use raft_handlers::{HandlerError, InstallSnapshot, SnapshotChanges, handle_install_snapshot};
 use raft_state::SnapshotMetaOf;
 use raft_testing::memory::on;
 use std::alloc::{AllocError, Global};
@@ -24,14 +24,32 @@ const FIRST: Row = Some((1, 1));
 
 const PAST: Row = Some((3, 9));
 
-/// The term of the leader 1 that sends a snapshot up to a row, what the follower answers, and then
-/// its last log id, the committed one, and the index after the purged ones.
-const ROWS: &[(&str, u64, Row, Answer, Row, Row, u64)] = &[
+/// What the follower writes to disk: whether the snapshot is installed, and whether it drops the
+/// log.
+type Written = (bool, bool);
+
+/// Nothing is written, or the request is refused.
+const NOTHING: Written = (false, false);
+
+/// The term of the leader 1 that sends a snapshot up to a row, what the follower answers and
+/// writes, and then its last log id, the committed one, and the index after the purged ones.
+const ROWS: &[(&str, u64, Row, Answer, Written, Row, Row, u64)] = &[
     (
         "a snapshot past the log takes its place",
         3,
         PAST,
         Answer::Matches(PAST),
+        (true, true),
+        PAST,
+        PAST,
+        10,
+    ),
+    (
+        "the vote of a later leader is new",
+        4,
+        PAST,
+        Answer::Matches(PAST),
+        (true, true),
         PAST,
         PAST,
         10,
@@ -41,6 +59,7 @@ const ROWS: &[(&str, u64, Row, Answer, Row, Row, u64)] = &[
         3,
         Some((2, 2)),
         Answer::Matches(Some((2, 2))),
+        (true, false),
         END,
         Some((2, 2)),
         3,
@@ -50,6 +69,7 @@ const ROWS: &[(&str, u64, Row, Answer, Row, Row, u64)] = &[
         3,
         FIRST,
         Answer::Matches(FIRST),
+        NOTHING,
         END,
         FIRST,
         0,
@@ -59,6 +79,7 @@ const ROWS: &[(&str, u64, Row, Answer, Row, Row, u64)] = &[
         2,
         PAST,
         Answer::HigherVote,
+        NOTHING,
         END,
         FIRST,
         0,
@@ -68,6 +89,7 @@ const ROWS: &[(&str, u64, Row, Answer, Row, Row, u64)] = &[
         3,
         Some((3, u64::MAX)),
         Answer::Refused(HandlerError::SnapshotDoesNotFit),
+        NOTHING,
         END,
         FIRST,
         0,
@@ -93,12 +115,21 @@ pub fn request<K: LeaderKind<u64>>(
 fn answers<K: LeaderKind<u64>>(
     state: &mut StateOf<K>,
     alloc: Global,
-    row: &(&str, u64, Row, Answer, Row, Row, u64),
+    row: &(&str, u64, Row, Answer, Written, Row, Row, u64),
 ) -> Result<bool, AllocError> {
-    let (_, term, upto, answer, last, committed, purged_next) = *row;
+    let (_, term, upto, answer, (installed, drops_log), last, committed, purged_next) = *row;
+    let changes = SnapshotChanges {
+        vote: term > 3,
+        installed,
+        drops_log,
+    };
     let made = handle_install_snapshot(state, &request::<K>(alloc, term, upto)?);
+    let due = match due::<K>(term, answer) {
+        Ok(response) => Ok((response, changes)),
+        Err(refusal) => Err(refusal),
+    };
     let are_right = [
-        made == due::<K>(term, answer),
+        made == due,
         state.purged_next == purged_next,
         is_at::<K>(state, last, committed),
     ];

@@ -20,7 +20,7 @@ pub fn votes(state: &mut Server, request: &VoteRequest<LeaderId<u64>, CommittedL
 
 /// Whether the log of a follower matches that of its leader now.
 pub fn follows(state: &mut Server, request: &Append) -> Result<bool, HandlerError> {
-    let response = handle_append_entries(state, request)?;
+    let (response, _changes) = handle_append_entries(state, request)?;
     Ok(matches!(response.outcome, Outcome::Matches(_)))
 }
 

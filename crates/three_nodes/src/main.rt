@@ -8,7 +8,7 @@ use anyhow::{Context, Result, bail, ensure};
 use raft_base::leader_id_std::{CommittedLeaderId, LeaderId};
 use raft_base::{EmptyNode, LogIdOf, LogIdRangeOf, LogStateReader, VoteIn};
 use raft_handlers::{
-    AppendEntries, Candidate, Leader, Outcome, State, Stored, handle_append_entries,
+    AppendEntries, Candidate, Leader, Outcome, Response, State, Stored, handle_append_entries,
     handle_vote_request, restart_server, start_cluster,
 };
 use raft_members::{ChangeMembers, Membership};
@@ -17,7 +17,11 @@ use raft_state::{EntryOf, EntryPayload, SnapshotMetaOf};
 use std::alloc::Global;
 use std::collections::BTreeMap;
 
+type LogEntry = EntryOf<CommittedLeaderId, u64, EmptyNode, u64>;
+
 type Request = AppendEntries<LeaderId<u64>, CommittedLeaderId, u64, EmptyNode, u64>;
+
+type Reply = Response<LeaderId<u64>, CommittedLeaderId>;
 
 /// A server, whose state machine adds numbers. A crash leaves the disk and the sum.
 #[derive(Drop)]
@@ -29,22 +33,24 @@ struct Server {
 }
 
 impl Server {
-    /// Ends a step, before the server sends or answers: writes the vote and the log to disk, and
-    /// flushes them. A leader then counts what its disk has, and commits what a quorum has; it
-    /// stops if it has promised a higher vote or is removed. What is committed is applied. The sum
-    /// and `committed` are one write, because a crash in between would apply entries twice.
-    fn finish(&mut self, sent: &[EntryOf<CommittedLeaderId, u64, EmptyNode, u64>]) -> Result<()> {
+    /// Ends a step, before the server sends or answers: writes the vote, a truncation and the new
+    /// entries to disk, and flushes them. A leader then counts what its disk has, and commits what
+    /// a quorum has; it stops if it has promised a higher vote or is removed. What is committed is
+    /// applied. The sum and `committed` are one write, because a crash in between would apply
+    /// entries twice.
+    fn finish(&mut self, truncated_from: Option<u64>, new: &[LogEntry]) -> Result<()> {
         let (state, disk) = (&mut self.state, &mut self.disk);
         disk.vote = *state.vote_ref();
-        let mut on_disk = disk.entries.iter().map(|entry| entry.log_id);
-        let kept = on_disk.rfind(|log_id| state.get_log_id(log_id.index) == Some(*log_id));
-        disk.entries.truncate(end(kept));
-        let last = state.last_log_id().copied();
-        let lacking = end(last).saturating_sub(disk.entries.len());
-        let (_, new) = sent.split_at(sent.len().checked_sub(lacking).context("not on disk")?);
-        let flushed = new.last().or(disk.entries.last()).map(|entry| entry.log_id);
-        ensure!(flushed == last, "the entries do not end the log");
+        if let Some(index) = truncated_from {
+            disk.entries.truncate(index as usize);
+        }
+        let before = end(state.last_log_id().copied()).checked_sub(new.len());
+        ensure!(
+            before == Some(disk.entries.len()),
+            "the disk lacks entries of the log"
+        );
         disk.entries.extend_with_clones(new)?;
+        let flushed = disk.entries.last().map(|entry| entry.log_id);
         self.leader.take_if(|leader| !leader.leads(state));
         if let Some(leader) = &mut self.leader {
             leader.handle_flushed(state, flushed)?;
@@ -65,14 +71,23 @@ impl Server {
     fn restart(&mut self) -> Result<()> {
         self.state = restart_server(*self.disk.entries.allocator(), &self.disk)?;
         self.leader = None;
-        self.finish(&[])
+        self.finish(None, &[])
+    }
+
+    /// Handles a leader's request, and writes to disk what it has changed.
+    fn follow(&mut self, request: &Request) -> Result<Reply> {
+        let (response, changes) = handle_append_entries(&mut self.state, request)?;
+        let known = request.entries.len().saturating_sub(changes.new);
+        let (_, new) = request.entries.split_at(known);
+        self.finish(changes.truncated_from, new)?;
+        Ok(response)
     }
 
     /// Appends an entry that adds a number.
     fn add(&mut self, number: u64) -> Result<()> {
         let leader = self.leader.as_ref().context("the server does not lead")?;
         let entry = leader.propose(&mut self.state, number)?;
-        self.finish(&[entry])
+        self.finish(None, &[entry])
     }
 
     /// Appends a membership that leads to these voters: first a joint one, and then the last.
@@ -80,7 +95,7 @@ impl Server {
         let change = ChangeMembers::replace_all(*self.disk.entries.allocator(), voters)?;
         let leader = self.leader.as_mut().context("the server does not lead")?;
         let entry = leader.propose_change(&mut self.state, change, false)?;
-        self.finish(&[entry])
+        self.finish(None, &[entry])
     }
 }
 
@@ -110,7 +125,7 @@ fn start(alloc: Global) -> Result<BTreeMap<u64, Server>> {
     let nodes = (1..=3).map(|id| (id, EmptyNode::new())).collect(alloc)?;
     let server = at(&mut servers, 1)?;
     let entries = start_cluster(&mut server.state, &1, Membership::from_nodes(alloc, nodes)?)?;
-    server.finish(&entries)?;
+    server.finish(None, &entries)?;
     Ok(servers)
 }
 
@@ -122,16 +137,16 @@ fn at(servers: &mut BTreeMap<u64, Server>, id: u64) -> Result<&mut Server> {
 fn elect(servers: &mut BTreeMap<u64, Server>, id: u64, voter: u64) -> Result<()> {
     let server = at(servers, id)?;
     let mut candidate = Candidate::campaign(id, 0, &mut server.state)?;
-    server.finish(&[])?;
+    server.finish(None, &[])?;
     let server = at(servers, voter)?;
     let response = handle_vote_request(&mut server.state, &candidate.request());
-    server.finish(&[])?;
+    server.finish(None, &[])?;
     candidate.handle_vote_response(&voter, &response);
     let server = at(servers, id)?;
     let leader = Leader::new(&mut server.state, &candidate)?;
     let entry = leader.propose_blank(&mut server.state)?;
     server.leader = Some(leader);
-    server.finish(&[entry])
+    server.finish(None, &[entry])
 }
 
 /// Returns what the leader sends to a follower: entries that it lacks, or a heartbeat.
@@ -157,9 +172,7 @@ fn next_request(server: &mut Server, to: u64) -> Result<Request> {
 /// A turn of the leader's loop: it sends to a follower, takes the response, and commits.
 fn send(servers: &mut BTreeMap<u64, Server>, id: u64, follower: u64) -> Result<()> {
     let request = next_request(at(servers, id)?, follower)?;
-    let server = at(servers, follower)?;
-    let response = handle_append_entries(&mut server.state, &request)?;
-    server.finish(&request.entries)?;
+    let response = at(servers, follower)?.follow(&request)?;
     let server = at(servers, id)?;
     if let Outcome::HigherVote(vote) = response.outcome {
         server.state.promise(vote);
@@ -168,7 +181,7 @@ fn send(servers: &mut BTreeMap<u64, Server>, id: u64, follower: u64) -> Result<(
         // A response that is late or comes twice is refused, and changes nothing.
         let _refused = leader.handle_response(&follower, &response);
     }
-    server.finish(&[])
+    server.finish(None, &[])
 }
 
 /// The leader's loop, with these followers.

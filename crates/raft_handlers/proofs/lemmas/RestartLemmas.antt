@@ -222,15 +222,15 @@ module _ {K N I L C : Type 0} (id_eq : K → K → Bool) (same : N → N → Boo
   refusal_promised meta some = rw (past_promised meta.last_log_id some, fits_promised meta some) refl
 
 -- what the result of such an install says of the snapshot
-pub fits_if_taken : (fits : Bool) → RefusedFor (if not fits then Some SnapshotDoesNotFit else None)
-    (let taken : Result (Unit {0}) HandlerError = Ok tt in taken) → fits ≡ true
-fits_if_taken true h = refl
-fits_if_taken false h = cc
+pub fits_if_taken : {T : Type 0} (fits : Bool) (value : T) → RefusedFor (if not fits then Some SnapshotDoesNotFit else None)
+    (let taken : Result T HandlerError = Ok value in taken) → fits ≡ true
+fits_if_taken true value h = refl
+fits_if_taken false value h = cc
 
-pub refused_if_not : (fits : Bool) (e : HandlerError) → RefusedFor (if not fits then Some SnapshotDoesNotFit else None)
-    (let refused : Result (Unit {0}) HandlerError = Err e in refused) → RefusedUnless (record tests_hold { fits = fits }) e
-refused_if_not true e h = rw h tt
-refused_if_not false e h = let is : e ≡ SnapshotDoesNotFit = cc in rw is refl
+pub refused_if_not : (T : Type 0) (fits : Bool) (e : HandlerError) → RefusedFor (if not fits then Some SnapshotDoesNotFit else None)
+    (let refused : Result T HandlerError = Err e in refused) → RefusedUnless (record tests_hold { fits = fits }) e
+refused_if_not T true e h = rw h tt
+refused_if_not T false e h = let is : e ≡ SnapshotDoesNotFit = cc in rw is refl
 
 -- an entry up to the last log id of a snapshot is not past it. If another leader has it at that index,
 -- no entry is past it

@@ -93,11 +93,10 @@ known_installs id_eq same same_leader ord meta s not = record {
 }
 
 -- a call that is refused is refused for a reason that the caller gives
-pub refused_as : (A B : Type 0) (o : Option HandlerError) (e : HandlerError)
-    → RefusedFor o (let inner : Result A HandlerError = Err e in inner)
-    → RefusedFor o (let out : Result B HandlerError = Err e in out)
-refused_as A B None e h = h
-refused_as A B (Some d) e h = let same : e ≡ d = cc in rw same refl
+pub refused_after : (A : Type 0) {B : Type 0} (o : Option HandlerError) (e f : HandlerError) (r : Result B HandlerError) → r ≡ Err f → f ≡ e
+    → RefusedFor o (let inner : Result A HandlerError = Err e in inner) → RefusedFor o r
+refused_after A None e f r is same h = rw (is, same) h
+refused_after A (Some d) e f r is same h = let reason : e ≡ d = cc in rw (is, same, reason) refl
 
 pub taken_as : {A B : Type 0} (o : Option HandlerError) (a : A) (b : B)
     → RefusedFor o (let inner : Result A HandlerError = Ok a in inner)

@@ -28,13 +28,11 @@ use Rattle.std.proofs.Common.{
   ◌∙◌,
 }
 use Rattle.std.proofs.lemmas.Bool.{and_parts, and_right}
-use Rattle.std.specs.Prelude.{Result, Ok, Err, IfErr, OnErr, OnOk}
 use Rattle.std.specs.Cmp.{IsEquivalence}
 use Rattle.std.specs.Cmp.Derive.{both_true}
 use Rattle.std.specs.List.{prefix_len}
 use Rattle.std.specs.declared.cmp.Ordering.{Ordering}
 use Rattle.raft_base.specs.LogId.{id_lt, index_of}
-use Rattle.raft_base.specs.UTime.{moment_of, utime_of}
 use Rattle.raft_base.specs.declared.log_id.LogIdOf.{LogIdOf}
 use Rattle.raft_base.specs.declared.utime.UTime.{UTime}
 use Rattle.raft_base.specs.declared.vote.VoteIn.{VoteIn}
@@ -90,7 +88,7 @@ use Rattle.raft_handlers.specs.Entries.{
   RefusedUnless,
   TakeTests,
 }
-use Rattle.raft_handlers.specs.Follow.{elected, heard, is_followed}
+use Rattle.raft_handlers.specs.Follow.{heard, is_followed}
 use Rattle.raft_handlers.specs.declared.error.HandlerError.{HandlerError}
 use Rattle.raft_handlers.specs.declared.error.HandlerError.TheVariants.{NotInOrder}
 use Rattle.raft_handlers.specs.declared.message.AppendEntries.{AppendEntries}
@@ -361,16 +359,6 @@ module _ {K N I L C D : Type 0} (ord : OrdMembers C) (id_eq : K → K → Bool) 
             has_committed = λ lt. rw logs (rw (committed, lt) at logged);
           }
 
--- what a call says of its result, from what its last step says of that
-pub on_ok_all : {T E A B C P : Type 0} (r : Result T E) → (A → B → C → P) → OnOk r A → OnOk r B → OnOk r C → OnOk r P
-on_ok_all (Ok v) f a b c = f a b c
-on_ok_all (Err e) f a b c = tt
-
-pub if_err_both : {T A : Type 0} {P Q : HandlerError → Type 0} (r : Result T HandlerError) → ((e : HandlerError) → A → P e → Q e)
-    → OnErr r A → IfErr r P → IfErr r Q
-if_err_both (Ok v) f a h = tt
-if_err_both (Err e) f a h = f e a h
-
 -- an append and then a commit change four fields
 pub take_rest : {K N I L C : Type 0} (old mid new : RaftStateIn K N I L C) → mid ≡ record old {
   log_ids = mid.log_ids;
@@ -605,22 +593,6 @@ module _ {K N I L C D : Type 0} (ord : OrdMembers C) (id_eq : K → K → Bool) 
   )
   heard_answers request (Conflict at) not h = heard_cut ord s new vote at request.prev h
   heard_answers request (HigherVote v) not h = absurd not
-
--- a promise of a leader's vote is what the server has heard
-pub promised_heard : {K N I L C : Type 0} (order : L → L → Option Ordering) (leader : L) (s new : RaftStateIn K N I L C) (taken : Bool)
-    → taken ≡ is_followed order leader s
-    → new ≡ (let t : RaftStateIn K N I L C = (if taken then record s { vote = utime_of (elected leader) (moment_of s.vote) } else s) in t)
-    → new ≡ heard order leader s
-promised_heard {K} {N} {I} {L} {C} order leader s new taken answer is = by taken answer is
-  where
-    by : (t : Bool) → t ≡ is_followed order leader s
-        → new ≡ (let u : RaftStateIn K N I L C = (if t then record s { vote = utime_of (elected leader) (moment_of s.vote) } else s) in u)
-        → new ≡ record s {
-          vote = (let v : UTime (VoteIn L) I =
-              (if is_followed order leader s then utime_of (elected leader) (moment_of s.vote) else s.vote) in v);
-        }
-    by true a e = rw (← a) e
-    by false a e = rw (← a) e
 
 -- a server that does not follow a leader is as it was
 pub not_heard : {K N I L C : Type 0} (order : L → L → Option Ordering) (leader : L) (s new : RaftStateIn K N I L C)

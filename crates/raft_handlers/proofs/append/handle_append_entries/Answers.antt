@@ -1,18 +1,37 @@
-use Rattle.std.proofs.Common.{◌≡◌, ap, rules, sym, ◌∙◌}
+use Rattle.std.proofs.Common.{◌≡◌, false, ap, rules, sym, ◌∙◌}
 use Rattle.raft_handlers.proofs.lemmas.RefusalLemmas.{taken_error}
 use Rattle.raft_handlers.proofs.lemmas.TakeLemmas.{heard_answers, heard_refuses, heard_rest, not_heard}
-use Rattle.raft_handlers.specs.Follow.{vote_heard}
+use Rattle.raft_handlers.proofs.lemmas.WrittenLemmas.{heard_writes, higher_writes}
+use Rattle.raft_handlers.specs.Follow.{is_followed, vote_heard}
 use Rattle.raft_handlers.specs.declared.error.HandlerError.TheVariants.{OutOfMemory}
 use Rattle.raft_handlers.proofs.append.handle_append_entries.Goals as goal
 
-pub returns-then-not-follow-clause-answers : goal.returns-then-not-follow-clause-answers
-returns-then-not-follow-clause-answers g c =
+pub returns-in_default-clause-answers : goal.returns-in_default-clause-answers
+returns-in_default-clause-answers g c =
     let s = c.args.state.now in
     let leader = c.args.request.now.leader_id in
-    let order = g.L.LeaderIdentity.order in (
-      c.vote_ref-promised.ensures,
-      not_heard order leader s c.follow.new.state (sym c.follow.ensures.answer ∙ c.if-not-follow.true) c.follow.ensures.heard,
-    )
+    let order = g.L.LeaderIdentity.order in
+    let other : is_followed order leader s ≡ false = sym (rw c.in_default.is at c.follow.ensures.follows) in
+    (c.vote_ref-promised.ensures, not_heard order leader s c.follow.new.state other c.follow.ensures.heard)
+
+pub returns-in_default-clause-writes : goal.returns-in_default-clause-writes
+returns-in_default-clause-writes g c =
+    let s = c.args.state.now in
+    let leader = c.args.request.now.leader_id in
+    let order = g.L.LeaderIdentity.order in
+    let other : is_followed order leader s ≡ false = sym (rw c.in_default.is at c.follow.ensures.follows) in
+    rw (not_heard order leader s c.follow.new.state other c.follow.ensures.heard)
+    (higher_writes _ c.args.request.now.entries.items g.met.L.Committed.Ord.total g.met.L.Committed.Eq.laws g.L.PartialEq.eq
+    g.met.L.Eq.laws _ s)
+
+pub returns-clause-writes : goal.returns-clause-writes
+returns-clause-writes g c =
+    let s = c.args.state.now in
+    let leader = c.args.request.now.leader_id in
+    let kept = ap (λ t. t.vote) c.in_ok-outcome.ensures.rest in
+    heard_writes _ c.args.request.now.entries.items g.L.PartialEq.eq s c.match_log.new.state
+    (vote_heard g.L.LeaderIdentity.order leader s) c.in_ok-outcome.outcome _ c.in-Some.is_new (rw kept c.in-Some.ensures.answer)
+    (rw c.follow.ensures.heard at c.in_ok-outcome.ensures.writes)
 
 pub returns-clause-vote : goal.returns-clause-vote
 returns-clause-vote g c = ap (λ t. t.vote) c.in_ok-outcome.ensures.rest ∙ ap (λ t. t.vote) c.follow.ensures.heard

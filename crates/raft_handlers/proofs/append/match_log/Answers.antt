@@ -1,11 +1,12 @@
-use Rattle.std.proofs.Common.{rules}
+use Rattle.std.proofs.Common.{ap, rules}
 use Rattle.raft_handlers.specs.Append.{last_of, least}
 use Rattle.raft_handlers.proofs.lemmas.TakeLemmas.{conflict_refused}
+use Rattle.raft_handlers.proofs.lemmas.WrittenLemmas.{conflict_written}
 use Rattle.raft_progress.specs.progress.Comparisons.{OrdMembers}
 use Rattle.raft_handlers.proofs.append.match_log.Goals as goal
 
-pub returns-in_err-cut-clause-refuses : goal.returns-in_err-cut-clause-refuses
-returns-in_err-cut-clause-refuses g c =
+pub returns-in_err-truncated_from-clause-refuses : goal.returns-in_err-truncated_from-clause-refuses
+returns-in_err-truncated_from-clause-refuses g c =
     let ord : OrdMembers g.row.C.Denot = record {
       partial_cmp = g.C.PartialOrd.partial_cmp;
       eq = g.C.PartialEq.eq;
@@ -13,6 +14,13 @@ returns-in_err-cut-clause-refuses g c =
     } in
     let r = c.args.request.now in
     let refuses = conflict_refused ord g.NID.PartialEq.eq g.N.PartialEq.eq g.met.C.Eq.laws r.prev r.entries.items
-    (least g.C.Ord.cmp r.committed (last_of r.prev r.entries.items)) c.args.state.now c.cut.new.state c.in-Some.at c.in_err-cut.field-0.0
-    c.in-Some.ensures.conflict c.in_err-cut.ensures.err c.in_err-cut.ensures.refused in
+    (least g.C.Ord.cmp r.committed (last_of r.prev r.entries.items)) c.args.state.now c.cut.new.state c.in-Some.at
+    c.in_err-truncated_from.field-0.0
+    c.in-Some.ensures.conflict c.in_err-truncated_from.ensures.err c.in_err-truncated_from.ensures.refused in
     search (rules, refuses)
+
+pub returns-in-Some-clause-writes : goal.returns-in-Some-clause-writes
+returns-in-Some-clause-writes g c =
+    conflict_written _ c.args.request.now.entries.items g.met.C.Ord.total g.met.C.Eq.laws c.in-Some.at
+    c.in_ok-truncated_from.truncated_from c.args.state.now c.cut.new.state c.in_ok-truncated_from.ensures.truncated
+    (ap (λ s. s.committed) c.in_ok-truncated_from.ensures.cut.rest)

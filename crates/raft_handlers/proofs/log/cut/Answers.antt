@@ -23,3 +23,9 @@ returns-then-not-can_truncate_log-clause-refused g c =
       sym c.ends_before.ensures ∙ c.if-ends_before.false,
       sym c.can_truncate_log.ensures ∙ c.if-not-can_truncate_log.true,
     ) refl
+
+pub returns-clause-truncated : goal.returns-clause-truncated
+returns-clause-truncated g c = record {
+  log = c.in_ok-truncate_log.ensures.log;
+  needed = sym c.ends_before.ensures ∙ c.if-ends_before.false;
+}

@@ -12,6 +12,7 @@ use Rattle.raft_handlers.proofs.lemmas.RestartLemmas.{
   some_there,
 }
 use Rattle.raft_handlers.specs.Restart.{snapshot_fits}
+use Rattle.raft_handlers.specs.declared.changes.SnapshotChanges.{SnapshotChanges}
 use Rattle.raft_state.specs.raft_state.VoteAndLog.{vote_of}
 use Rattle.raft_handlers.proofs.restart.from_snapshot.Goals as goal
 use Rattle.raft_handlers.proofs.restart.from_snapshot.Goals.{then-is_some+in_ok-install, else-is_some}
@@ -27,7 +28,8 @@ returns-in_err-install-clause-refused g c =
     c.in_ok-state.ensures.new own.4 c.commit.new.self vote c.promise-promised.result c.promise-promised.ensures.answer
     c.promise-promised.ensures.taken c.args.snapshot.now
     (sym c.is_some.ensures ∙ c.if-is_some.true) in
-    let why = refused_if_not (snapshot_fits g.L.Committed.Ord.cmp c.args.snapshot.now.last_log_id c.args.snapshot.now.last_membership) _
+    let why = refused_if_not SnapshotChanges
+    (snapshot_fits g.L.Committed.Ord.cmp c.args.snapshot.now.last_log_id c.args.snapshot.now.last_membership) _
     (rw refusal at c.in_err-install.ensures.refused) in
     search (rules, why)
 
@@ -43,7 +45,7 @@ returns-clause-fits g c = elim c.if-is_some.branch [
       c.in_ok-state.ensures.new own.4 w.commit.new.self vote w.promise-promised.result w.promise-promised.ensures.answer
       w.promise-promised.ensures.taken c.args.snapshot.now
       (sym c.is_some.ensures ∙ w.if-is_some.true) in
-      fits_if_taken (snapshot_fits g.L.Committed.Ord.cmp c.args.snapshot.now.last_log_id c.args.snapshot.now.last_membership)
+      fits_if_taken (snapshot_fits g.L.Committed.Ord.cmp c.args.snapshot.now.last_log_id c.args.snapshot.now.last_membership) _
       (rw refusal at w.in_ok-install.ensures.refused)
   | else-is_some w ↦ rw (none_there c.args.snapshot.now.last_log_id (sym c.is_some.ensures ∙ w.if-is_some.false))
 ]

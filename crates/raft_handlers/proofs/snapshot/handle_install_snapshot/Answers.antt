@@ -1,35 +1,37 @@
-use Rattle.std.proofs.Common.{◌≡◌, true, false, refl, rules, sym, ◌∙◌}
-use Rattle.raft_handlers.proofs.lemmas.SnapshotLemmas.{followed_refusal, refused_as, taken_as}
-use Rattle.std.specs.Prelude.{Result, Err}
-use Rattle.raft_handlers.specs.Follow.{heard, is_followed}
+use Rattle.std.proofs.Common.{◌≡◌, true, false, refl, sym}
+use Rattle.raft_handlers.proofs.lemmas.SnapshotLemmas.{followed_refusal, refused_after, taken_as}
+use Rattle.raft_handlers.proofs.lemmas.TakeLemmas.{not_heard}
+use Rattle.raft_handlers.proofs.lemmas.WrittenLemmas.{heard_installs, not_installed}
+use Rattle.std.proofs.lemmas.Result.{err_from_is_err_and}
+use Rattle.raft_handlers.specs.Follow.{heard, is_followed, vote_heard}
 use Rattle.raft_handlers.specs.Snapshot.{install_refusal}
-use Rattle.raft_handlers.specs.declared.error.HandlerError.{HandlerError}
-use Rattle.raft_handlers.specs.declared.message.Response.{Response}
 use Rattle.raft_handlers.proofs.snapshot.handle_install_snapshot.Goals as goal
 
-pub returns-then-not-follow-clause-answers : goal.returns-then-not-follow-clause-answers
-returns-then-not-follow-clause-answers g c =
+pub returns-in_default-clause-answers : goal.returns-in_default-clause-answers
+returns-in_default-clause-answers g c =
     let other : is_followed g.L.LeaderIdentity.order c.args.request.now.leader_id c.args.state.now ≡ false =
-    sym c.follow.ensures.answer ∙ c.if-not-follow.true in
+    sym (rw c.in_default.is at c.follow.ensures.follows) in
     (rw other c.vote_ref-promised.ensures, c.follow.ensures.heard)
 
-pub returns-then-not-follow-clause-refused : goal.returns-then-not-follow-clause-refused
-returns-then-not-follow-clause-refused g c =
+pub returns-in_default-clause-refused : goal.returns-in_default-clause-refused
+returns-in_default-clause-refused g c =
     let other : is_followed g.L.LeaderIdentity.order c.args.request.now.leader_id c.args.state.now ≡ false =
-    sym c.follow.ensures.answer ∙ c.if-not-follow.true in
+    sym (rw c.in_default.is at c.follow.ensures.follows) in
     rw other tt
 
-pub returns-in_err-install-clause-refused : goal.returns-in_err-install-clause-refused
-returns-in_err-install-clause-refused g c =
+pub returns-in_err-changes-clause-refused : goal.returns-in_err-changes-clause-refused
+returns-in_err-changes-clause-refused g c =
     let s = c.args.state.now in
     let leader = c.args.request.now.leader_id in
     let order = g.L.LeaderIdentity.order in
     let reason = install_refusal order g.L.Committed.Ord.cmp g.L.Committed.PartialEq.eq c.args.request.now.meta (heard order leader s) in
-    let out : Result (Response g.row.L.Denot g.row.L-Committed.Denot) HandlerError = Err c.in_err-install.field-0.0 in
-    let followed : is_followed order leader s ≡ true = sym c.follow.ensures.answer ∙ c.if-not-follow.false in
-    let why = followed_refusal (is_followed order leader s) reason out followed
-    (refused_as _ _ reason c.in_err-install.field-0.0 (rw c.follow.ensures.heard at c.in_err-install.ensures.refused)) in
-    search (rules, why)
+    let followed : is_followed order leader s ≡ true = sym (rw c.in-Some.is at c.follow.ensures.follows) in
+    let p = err_from_is_err_and c.from_residual.result c.from_residual.ensures.1 in
+    let given = p.2 in
+    let same : p.0 ≡ c.in_err-changes.field-0.0 = cc in
+    followed_refusal (is_followed order leader s) reason _ followed
+    (refused_after _ reason c.in_err-changes.field-0.0 p.0 c.from_residual.result p.1 same
+    (rw c.follow.ensures.heard at c.in_err-changes.ensures.refused))
 
 pub returns-clause-refused : goal.returns-clause-refused
 returns-clause-refused g c =
@@ -37,9 +39,28 @@ returns-clause-refused g c =
     let leader = c.args.request.now.leader_id in
     let order = g.L.LeaderIdentity.order in
     let reason = install_refusal order g.L.Committed.Ord.cmp g.L.Committed.PartialEq.eq c.args.request.now.meta (heard order leader s) in
-    let followed : is_followed order leader s ≡ true = sym c.follow.ensures.answer ∙ c.if-not-follow.false in
+    let followed : is_followed order leader s ≡ true = sym (rw c.in-Some.is at c.follow.ensures.follows) in
     followed_refusal (is_followed order leader s) reason _ followed
-    (taken_as reason tt _ (rw c.follow.ensures.heard at c.in_ok-install.ensures.refused))
+    (taken_as reason c.in_ok-changes.changes _ (rw c.follow.ensures.heard at c.in_ok-changes.ensures.refused))
 
 pub returns-clause-answers : goal.returns-clause-answers
-returns-clause-answers g c = (refl, rw c.follow.ensures.heard at c.in_ok-install.ensures.installs)
+returns-clause-answers g c = (refl, rw c.follow.ensures.heard at c.in_ok-changes.ensures.installs)
+
+pub returns-in_default-clause-writes : goal.returns-in_default-clause-writes
+returns-in_default-clause-writes g c =
+    let s = c.args.state.now in
+    let leader = c.args.request.now.leader_id in
+    let order = g.L.LeaderIdentity.order in
+    let other : is_followed order leader s ≡ false = sym (rw c.in_default.is at c.follow.ensures.follows) in
+    not_installed _ c.args.request.now.meta g.L.PartialEq.eq g.met.L.Eq.laws s c.follow.new.state (is_followed order leader s) other
+    (not_heard order leader s c.follow.new.state other c.follow.ensures.heard)
+
+pub returns-clause-writes : goal.returns-clause-writes
+returns-clause-writes g c =
+    let s = c.args.state.now in
+    let leader = c.args.request.now.leader_id in
+    let order = g.L.LeaderIdentity.order in
+    let followed : is_followed order leader s ≡ true = sym (rw c.in-Some.is at c.follow.ensures.follows) in
+    heard_installs _ c.args.request.now.meta g.L.PartialEq.eq s c.install.new.state (vote_heard order leader s) _ c.in-Some.is_new
+    (is_followed order leader s) (rw c.in_ok-changes.ensures.installs.vote c.in-Some.ensures.answer) followed
+    (rw c.follow.ensures.heard at c.in_ok-changes.ensures.writes)
