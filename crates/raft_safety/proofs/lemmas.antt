@@ -12,6 +12,7 @@ pub mod RuleLemmas
 pub mod TestLemmas
 pub mod TraceLemmas
 pub mod CheckedLogLemmas
+pub mod TermsLemmas
 pub mod CheckedServerLemmas
 pub mod CheckedLeaderLemmas
 pub mod CheckerLemmas

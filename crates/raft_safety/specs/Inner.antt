@@ -1,6 +1,7 @@
 -- Definitions that only private functions and proofs use.
 pub mod CheckerState
 pub mod Logs
+pub mod TermsState
 pub mod Nodes
 pub mod Kept
 pub mod Seen

@@ -14,6 +14,7 @@ mod leader;
 mod logs;
 mod node;
 mod server;
+mod terms;
 mod violation;
 
 use crate::entry::Entry;
@@ -134,7 +135,7 @@ impl<T: Term, N: Copy + Eq, D: Copy + Eq, C: Configs<N, D> + Drop> Checker<T, N,
         let rank = term.rank();
         // A server has reached each term in which it has campaigned. So a campaign in a later term is
         // no second one, and no leader has to be searched for.
-        if rank <= self.servers[i].term {
+        if rank <= self.servers[i].term() {
             match leader_at(&self.leaders, term, server) {
                 Some(_) => return Err(Violation::Rule(Rule::CampaignedTwice)),
                 None => return Err(Violation::Rule(Rule::PassedTerm)),
@@ -187,7 +188,7 @@ impl<T: Term, N: Copy + Eq, D: Copy + Eq, C: Configs<N, D> + Drop> Checker<T, N,
         // The server has taken entries in the term, so its vote is late. No election counts it: the
         // rules are about whole histories, in which a late vote could otherwise elect the leader
         // from which the server took these entries.
-        if rank <= voter.term {
+        if rank <= voter.term() {
             voter.vote_late(rank);
             return Ok(());
         }

@@ -26,7 +26,6 @@ use Rattle.std.specs.Prelude.{
   length,
   take,
   drop,
-  map,
   get_or,
   set,
 }
@@ -53,31 +52,13 @@ use Rattle.raft_safety.specs.Trace.{
   and_append,
   and_restart,
 }
-use Rattle.raft_safety.specs.Inner.CheckerState.{common_len, kept_from, kept_after, at_most}
+use Rattle.raft_safety.specs.Inner.CheckerState.{common_len, kept_from, kept_after}
 use Rattle.raft_safety.specs.Inner.Seen.{SeesServer, SeesServers, kept_at, find_server}
-use Rattle.raft_safety.specs.declared.checker.server.Kept.{Kept}
+use Rattle.raft_safety.specs.declared.checker.terms.Kept.{Kept}
 use Rattle.raft_safety.specs.Inner.CheckerState.{ServerState}
 use Rattle.raft_safety.proofs.lemmas.PrefixLemmas.{prefix_length}
 use Rattle.raft_safety.proofs.lemmas.TestLemmas.{or_cases, leader_right, prefix_right, entry_right, entry_itself}
 use Rattle.raft_safety.proofs.lemmas.CheckedLogLemmas.{le_test_min, prefix_of_both, common_short, common_itself, common_from, common_length}
-
--- ---- the table of what is kept
-
-pub kept_from_push : (n : ℕ) (ks : List Kept) (k : Kept) (r : ℕ)
-    → kept_from n (ks ++ k ∷ []) r ≡ (if nat_le k.term r then k.len else kept_from n ks r)
-kept_from_push n [] k r = refl
-kept_from_push n (x ∷ ks) k r = kept_from_push (if nat_le x.term r then x.len else n) ks k r
-
-min_if : (b : Bool) (x y c : ℕ) → min (if b then x else y) c ≡ (if b then min x c else min y c)
-min_if true x y c = refl
-min_if false x y c = refl
-
-pub kept_from_limit : (c n : ℕ) (ks : List Kept) (r : ℕ)
-    → kept_from (min n c) (map (at_most c) ks) r ≡ min (kept_from n ks r) c
-kept_from_limit c n [] r = refl
-kept_from_limit c n (x ∷ ks) r =
-    ap (λ m. kept_from m (map (at_most c) ks) r) (sym (min_if (nat_le x.term r) x.len n c))
-    ∙ kept_from_limit c (if nat_le x.term r then x.len else n) ks r
 
 pub place_of : {X : Type 0} (p : X → Bool) (xs : List X) (i : ℕ) → position p xs ≡ Some i
     → i ≡ position_or_len p xs
@@ -164,26 +145,24 @@ module _ {T ID D : Type 0} (k : Tests T ID D (Option D)) (exact : AreExact k) wh
   -- what was kept of the terms below one that the server reaches
   kept_below : (evs : List (Event T ID D)) (s : ServerState T ID D) (r next : ℕ) → SeesServer k evs s
       → s.term ≤ next → r < next
-      → kept_at k r evs ≡ kept_from 0 (kept_after s.kept s.term (length s.log) next) r
+      → kept_at k r evs ≡ kept_after s.kept s.term (length s.log) next r
   kept_below evs s r next sees le lt = go (cases_lt s.term next)
     where
       before : s.term < next → (r < s.term) ⊎ (s.term ≤ r)
           → kept_at k r evs
-          ≡ kept_from 0 (s.kept ++ record { term = s.term; len = length s.log } ∷ []) r
+          ≡ (if nat_le s.term r then length s.log else min (kept_from 0 s.kept r) (length s.log))
       before up (inl h) =
           let f : nat_le s.term r ≡ false = lt-leb s.term r h in
-          sees.kept r h
-          ∙ sym (kept_from_push 0 s.kept (record { term = s.term; len = length s.log }) r
-          ∙ ap (λ b. if b then length s.log else kept_from 0 s.kept r) f)
+          let short : kept_at k r evs ≤ length s.log = rw (← sees.log) (kept_short k exact r evs) in
+          let same : kept_at k r evs ≡ kept_from 0 s.kept r = sees.kept r h in
+          rw f (omega (arith, short, same))
       before up (inr h) =
           let f : nat_le s.term r ≡ true = le-leb s.term r h in
           let t : term_after k.rank evs ≤ r = rw sees.term h in
-          (kept_all k exact r evs t ∙ ap length sees.log)
-          ∙ sym (kept_from_push 0 s.kept (record { term = s.term; len = length s.log }) r
-          ∙ ap (λ b. if b then length s.log else kept_from 0 s.kept r) f)
+          rw f (kept_all k exact r evs t ∙ ap length sees.log)
 
       go : (s.term < next) ⊎ (next ≤ s.term)
-          → kept_at k r evs ≡ kept_from 0 (kept_after s.kept s.term (length s.log) next) r
+          → kept_at k r evs ≡ kept_after s.kept s.term (length s.log) next r
       go (inl up) = rw (lt-ltb s.term next up) (before up (cases_lt r s.term))
       go (inr same) =
           let below : r < s.term = omega arith in
@@ -193,7 +172,7 @@ module _ {T ID D : Type 0} (k : Tests T ID D (Option D)) (exact : AreExact k) wh
   pub sees_vote : (evs : List (Event T ID D)) (s new : ServerState T ID D) (t : T) (c : ID)
       → SeesServer k evs s → s.term < k.rank t → new.term ≡ max s.term (k.rank t)
       → new.voted ≡ k.rank t → new.log ≡ s.log → new.durable ≡ s.durable
-      → new.kept ≡ kept_after s.kept s.term (length s.log) (k.rank t)
+      → ((r : ℕ) → kept_from 0 new.kept r ≡ kept_after s.kept s.term (length s.log) (k.rank t) r)
       → SeesServer k (GrantVote t c ∷ evs) new
   sees_vote evs s new t c sees up term voted log dur kept = record {
     term = omega arith;
@@ -207,8 +186,7 @@ module _ {T ID D : Type 0} (k : Tests T ID D (Option D)) (exact : AreExact k) wh
         ∙ ap (λ x. min (kept_at k r evs) x)
         (common_itself (same_entry k) (entry_right k exact) (entry_itself k exact) (log_after evs))
         ∙ small r
-        ∙ kept_below evs s r (k.rank t) sees le below
-        ∙ ap (λ ks. kept_from 0 ks r) (sym kept));
+        ∙ kept_below evs s r (k.rank t) sees le below ∙ sym (kept r));
     votes = λ u d h. voted_by u d (or_cases (same_leader k t c u d) (has_voted k u d evs) h);
   }
     where
@@ -250,8 +228,8 @@ module _ {T ID D : Type 0} (k : Tests T ID D (Option D)) (exact : AreExact k) wh
       → new.term ≡ max s.term (k.rank t) → new.voted ≡ s.voted
       → new.log ≡ take n s.log ++ sent
       → new.durable ≡ min s.durable (n + common_len (same_entry k) (drop n s.log) sent)
-      → new.kept ≡ map (at_most (n + common_len (same_entry k) (drop n s.log) sent))
-      (kept_after s.kept s.term (length s.log) (k.rank t))
+      → ((r : ℕ) → kept_from 0 new.kept r ≡ min (kept_after s.kept s.term (length s.log) (k.rank t) r)
+      (n + common_len (same_entry k) (drop n s.log) sent))
       → SeesServer k (and_append t c n sent evs) new
   sees_append evs s new t c n sent sees le within term voted log dur kept = record {
     term = omega arith;
@@ -266,9 +244,7 @@ module _ {T ID D : Type 0} (k : Tests T ID D (Option D)) (exact : AreExact k) wh
         kept_earlier k exact r (Append t c (take n (log_after evs) ++ sent)) evs below
         ∙ ap (λ x. min (kept_at k r evs) x) shared
         ∙ ap (λ x. min x (n + common_len (same_entry k) (drop n s.log) sent))
-        (kept_below evs s r (k.rank t) sees le below)
-        ∙ sym (limit r)
-        ∙ ap (λ ks. kept_from 0 ks r) (sym kept));
+        (kept_below evs s r (k.rank t) sees le below) ∙ sym (kept r));
     votes = λ u d h. (let before : k.rank u ≤ s.term = sees.votes u d h in omega (arith, before, term));
   }
     where
@@ -281,16 +257,6 @@ module _ {T ID D : Type 0} (k : Tests T ID D (Option D)) (exact : AreExact k) wh
           common_from (same_entry k) (entry_right k exact) (entry_itself k exact) n (log_after evs) sent
           within_log
           ∙ ap (λ l. n + common_len (same_entry k) (drop n l) sent) sees.log
-
-      limit : (r : ℕ) → kept_from 0 (map (at_most (n + common_len (same_entry k) (drop n s.log) sent))
-          (kept_after s.kept s.term (length s.log) (k.rank t))) r
-          ≡ min (kept_from 0 (kept_after s.kept s.term (length s.log) (k.rank t)) r)
-          (n + common_len (same_entry k) (drop n s.log) sent)
-      limit r =
-          let x : ℕ = n + common_len (same_entry k) (drop n s.log) sent in
-          let z : 0 ≡ min 0 x = omega arith in
-          ap (λ m. kept_from m (map (at_most x) (kept_after s.kept s.term (length s.log) (k.rank t))) r) z
-          ∙ kept_from_limit x 0 (kept_after s.kept s.term (length s.log) (k.rank t)) r
 
   -- a server acknowledges entries
   pub sees_ack : (evs : List (Event T ID D)) (s new : ServerState T ID D) (t : T) (c : ID) (n : ℕ)
@@ -319,7 +285,8 @@ module _ {T ID D : Type 0} (k : Tests T ID D (Option D)) (exact : AreExact k) wh
   pub sees_restart : (evs : List (Event T ID D)) (s new : ServerState T ID D) (n : ℕ)
       → SeesServer k evs s → n ≤ length s.log → new.term ≡ s.term → new.voted ≡ s.voted
       → new.log ≡ take n s.log → new.durable ≡ min s.durable n
-      → new.kept ≡ map (at_most n) s.kept → SeesServer k (and_restart n evs) new
+      → ((r : ℕ) → kept_from 0 new.kept r ≡ min (kept_from 0 s.kept r) n)
+      → SeesServer k (and_restart n evs) new
   sees_restart evs s new n sees within term voted log dur kept = record {
     term = sees.term ∙ sym term;
     voted = sees.voted ∙ sym voted;
@@ -333,9 +300,7 @@ module _ {T ID D : Type 0} (k : Tests T ID D (Option D)) (exact : AreExact k) wh
         let still : r < term_after k.rank (Restart (take n (log_after evs)) ∷ evs) = rw sees.term below in
         kept_earlier k exact r (Restart (take n (log_after evs))) evs still
         ∙ ap (λ x. min (kept_at k r evs) x) shared
-        ∙ ap (λ x. min x n) (sees.kept r below)
-        ∙ sym (limit r)
-        ∙ ap (λ ks. kept_from 0 ks r) (sym kept));
+        ∙ ap (λ x. min x n) (sees.kept r below) ∙ sym (kept r));
     votes = λ u d h. (let before : k.rank u ≤ s.term = sees.votes u d h in omega (arith, before, term));
   }
     where
@@ -344,11 +309,6 @@ module _ {T ID D : Type 0} (k : Tests T ID D (Option D)) (exact : AreExact k) wh
 
       shared : common_len (same_entry k) (log_after evs) (take n (log_after evs)) ≡ n
       shared = common_take k exact n (log_after evs) within_log
-
-      limit : (r : ℕ) → kept_from 0 (map (at_most n) s.kept) r ≡ min (kept_from 0 s.kept r) n
-      limit r =
-          let z : 0 ≡ min 0 n = omega arith in
-          ap (λ m. kept_from m (map (at_most n) s.kept) r) z ∙ kept_from_limit n 0 s.kept r
 
   -- ---- all servers
 

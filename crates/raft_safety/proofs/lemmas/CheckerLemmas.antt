@@ -126,7 +126,6 @@ use Rattle.raft_safety.specs.Inner.CheckerState.{
   common_len,
   kept_from,
   kept_after,
-  at_most,
   IsAdded,
   HasPlace,
   apply_rule,
@@ -351,7 +350,7 @@ module _ {T ID D : Type 0} (k : Tests T ID D (Option D)) (exact : AreExact k) wh
       → position (λ (x : ServerState T ID D). k.same_id x.id id) servers ≡ Some i → s ≡ get_or servers i s
       → HasSeen k es servers leaders → restart_rule s n ≡ None
       → new.id ≡ s.id → new.term ≡ s.term → new.voted ≡ s.voted → new.log ≡ take n s.log
-      → new.durable ≡ min s.durable n → new.kept ≡ map (at_most n) s.kept
+      → new.durable ≡ min s.durable n → ((r : ℕ) → kept_from 0 new.kept r ≡ min (kept_from 0 s.kept r) n)
       → (broken_rule k (Restarted id n) es ≡ None)
       × HasSeen k (Restarted id n ∷ es) (set servers i new) leaders
   restart_seen es id servers leaders i n s new at_i is seen free same_id same_term vote log dur kept = (
@@ -421,8 +420,8 @@ module _ {T ID D : Type 0} (k : Tests T ID D (Option D)) (exact : AreExact k) wh
       → HasSeen k es servers leaders → append_rule (same_entry k) s l (k.rank t) n sent ≡ None
       → new.id ≡ s.id → new.term ≡ max s.term (k.rank t) → new.voted ≡ s.voted → new.log ≡ take n s.log ++ sent
       → new.durable ≡ min s.durable (n + common_len (same_entry k) (drop n s.log) sent)
-      → new.kept ≡ map (at_most (n + common_len (same_entry k) (drop n s.log) sent))
-      (kept_after s.kept s.term (length s.log) (k.rank t))
+      → ((r : ℕ) → kept_from 0 new.kept r ≡ min (kept_after s.kept s.term (length s.log) (k.rank t) r)
+      (n + common_len (same_entry k) (drop n s.log) sent))
       → (broken_rule k (Appended id t c n sent) es ≡ None)
       × HasSeen k (Appended id t c n sent ∷ es) (set servers i new) leaders
   append_seen es id t c n sent servers leaders i j s new l at_i is at_j is_l seen free same_id term vote log dur kept = (
@@ -621,7 +620,7 @@ module _ {T ID D : Type 0} (k : Tests T ID D (Option D)) (exact : AreExact k) wh
       → HasSeen k es servers leaders → grant_rule k.rank k.same_id s l id (k.rank t) c ≡ None
       → s.term < k.rank t → new.id ≡ s.id → new.term ≡ max s.term (k.rank t) → new.voted ≡ k.rank t → new.log ≡ s.log
       → new.durable ≡ s.durable
-      → new.kept ≡ kept_after s.kept s.term (length s.log) (k.rank t)
+      → ((r : ℕ) → kept_from 0 new.kept r ≡ kept_after s.kept s.term (length s.log) (k.rank t) r)
       → ((v : ID) → is_member k.same_id lnew.voters v
       ≡ (is_member k.same_id l.voters v || k.same_id v id))
       → IsDistinct k.same_id lnew.voters
@@ -765,7 +764,7 @@ module _ {T ID D : Type 0} (k : Tests T ID D (Option D)) (exact : AreExact k) wh
       → HasSeen k es servers leaders → s.term < k.rank t
       → new.id ≡ s.id → new.term ≡ max s.term (k.rank t) → new.voted ≡ k.rank t → new.log ≡ s.log
       → new.durable ≡ s.durable
-      → new.kept ≡ kept_after s.kept s.term (length s.log) (k.rank t)
+      → ((r : ℕ) → kept_from 0 new.kept r ≡ kept_after s.kept s.term (length s.log) (k.rank t) r)
       → lnew.elected ≡ k.quorum_of (effective_config k.config_of k.initial s.log)
       (is_member k.same_id (c ∷ []))
       → lnew.acked ≡ []

@@ -93,7 +93,7 @@ use Rattle.raft_safety.specs.Inner.CheckerState.{
   has_acked_to,
   common_len,
   kept_after,
-  at_most,
+  kept_from,
   IsAdded,
   HasPlace,
   apply_rule,
@@ -191,11 +191,11 @@ module _ {T N D : Type 0} (old new : AllLogs T D) where
       same_servers xs (λ i s h e. same (suc i) s (omega (arith, h)) e) in
       λ q. record {
         id = x.id;
-        term = x.term;
+        term = x.terms.term;
         voted = x.voted;
         log = here q;
         durable = x.durable;
-        kept = x.kept.items;
+        kept = x.terms.kept;
       } ∷ rest q
 
   same_leaders : (xs : List (Leader T N))
@@ -480,19 +480,22 @@ module _ {T ID D : Type 0} (k : Tests T ID D (Option D)) (exact : AreExact k) wh
       (s0 s new : Server ID) → position (is_server id) p.servers ≡ Some i
       → s0 ≡ get_or p.servers i s0 → s ≡ get_or p.servers i s → Keeps k es p
       → restart_rule (server_in p.logs s0) n ≡ None
-      → new.id ≡ s.id → new.term ≡ s.term → new.voted ≡ s.voted
-      → log_at p.logs new.log ≡ take n (log_at p.logs s.log) → new.log ≤ s.log
-      → new.durable ≡ min s.durable n → new.kept.items ≡ map (at_most n) s.kept.items
+      → (log : ℕ) → log_at p.logs log ≡ take n (log_at p.logs s.log) → log ≤ s.log
+      → new.terms.term ≡ s.terms.term
+      → ((r : ℕ) → kept_from 0 new.terms.kept r ≡ min (kept_from 0 s.terms.kept r) n)
+      → new ≡ record s { terms = new.terms; log = log; durable = min s.durable n }
       → (broken_rule k (Restarted id n) es ≡ None) × Keeps k (Restarted id n ∷ es) (with_server p i new)
-  restart_done es id p i n s0 s new at is0 is keeps free same_id term vote log earlier dur kept =
+  restart_done es id p i n s0 s new at is0 is keeps free log is_log earlier term kept rest =
+      let new_log : new.log ≡ log = ap (λ (x : Server ID). x.log) rest in
       let within : i < length p.servers = within_of (is_server id) p.servers i s at in
       let one : s0 ≡ s = same_item p.servers i s0 s within is0 is in
       let old_log : s.log < length p.logs.logs = log_of_server es p i s keeps within is in
       let done = restart_seen k exact es id (servers_in p) (leaders_in p) i n (server_in p.logs s) (server_in p.logs new)
       (server_place p id i at) (item_map (server_in p.logs) p.servers i s is) keeps.seen
       (subst (λ (x : Server ID). restart_rule (server_in p.logs x) n ≡ None) one free)
-      same_id term vote log dur kept in
-      (done.0, keeps_server (Restarted id n ∷ es) p i new within (omega (arith, old_log, earlier)) done.1 es keeps)
+      (ap (λ (x : Server ID). x.id) rest) term (ap (λ (x : Server ID). x.voted) rest)
+      (ap (log_at p.logs) new_log ∙ is_log) (ap (λ (x : Server ID). x.durable) rest) kept in
+      (done.0, keeps_server (Restarted id n ∷ es) p i new within (omega (arith, old_log, earlier, new_log)) done.1 es keeps)
 
   pub restart_refused : (es : List (TraceEvent T ID D)) (id : ID) (p : Parts T ID D) (i n : ℕ)
       (s : Server ID) (r : Rule) → position (is_server id) p.servers ≡ Some i
@@ -523,16 +526,19 @@ module _ {T ID D : Type 0} (k : Tests T ID D (Option D)) (exact : AreExact k) wh
       → l0 ≡ get_or p.leaders j l0 → l ≡ get_or p.leaders j l → Keeps k es p
       → append_rule (same_entry k) (server_in p.logs s0) (leader_in p.logs l0) (k.rank t) n sent ≡ None
       → same ≡ n + common_len (same_entry k) (drop n (log_at p.logs s.log)) sent
+      → (log : ℕ)
       → (append_rule (same_entry k) (server_in p.logs s) (leader_in p.logs l) (k.rank t) n sent ≡ None
-      → log_at p.logs new.log ≡ take n (log_at p.logs s.log) ++ sent)
-      → (new.log ≤ s.log) ⊎ (new.log ≤ l.log)
-      → new.id ≡ s.id → new.term ≡ max s.term (k.rank t) → new.voted ≡ s.voted
-      → new.durable ≡ min s.durable same
-      → new.kept.items ≡ map (at_most same) (kept_after s.kept.items s.term (length (log_at p.logs s.log)) (k.rank t))
+      → log_at p.logs log ≡ take n (log_at p.logs s.log) ++ sent)
+      → (log ≤ s.log) ⊎ (log ≤ l.log)
+      → new.terms.term ≡ max s.terms.term (k.rank t)
+      → ((r : ℕ) → kept_from 0 new.terms.kept r
+      ≡ min (kept_after s.terms.kept s.terms.term (length (log_at p.logs s.log)) (k.rank t) r) same)
+      → new ≡ record s { terms = new.terms; log = log; durable = min s.durable same }
       → (broken_rule k (Appended id t c n sent) es ≡ None)
       × Keeps k (Appended id t c n sent ∷ es) (with_server p i new)
-  append_done es id t c n same sent p i j s0 s new l0 l at is0 is at_j is_l0 is_l keeps free is_same log earlier same_id term
-      vote dur kept =
+  append_done es id t c n same sent p i j s0 s new l0 l at is0 is at_j is_l0 is_l keeps free is_same log is_log earlier term
+      kept rest =
+      let new_log : new.log ≡ log = ap (λ (x : Server ID). x.log) rest in
       let within : i < length p.servers = within_of (is_server id) p.servers i s at in
       let within_j : j < length p.leaders = within_of (is_leader t c) p.leaders j l at_j in
       let one : s0 ≡ s = same_item p.servers i s0 s within is0 is in
@@ -544,36 +550,86 @@ module _ {T ID D : Type 0} (k : Tests T ID D (Option D)) (exact : AreExact k) wh
       let done = append_seen k exact es id t c n sent (servers_in p) (leaders_in p) i j (server_in p.logs s) (server_in p.logs new)
       (leader_in p.logs l) (server_place p id i at) (item_map (server_in p.logs) p.servers i s is)
       (leader_place_in p t c (Some j) at_j) (item_map (leader_in p.logs) p.leaders j l is_l) keeps.seen now
-      same_id term vote (log now) (dur ∙ ap (λ m. min s.durable m) is_same)
-      (kept ∙ ap (λ m. map (at_most m) (kept_after s.kept.items s.term (length (log_at p.logs s.log)) (k.rank t))) is_same) in
-      (done.0, keeps_server (Appended id t c n sent ∷ es) p i new within (go earlier within within_j) done.1 es keeps)
+      (ap (λ (x : Server ID). x.id) rest) term (ap (λ (x : Server ID). x.voted) rest)
+      (ap (log_at p.logs) new_log ∙ is_log now)
+      (ap (λ (x : Server ID). x.durable) rest ∙ ap (λ m. min s.durable m) is_same)
+      (λ r. kept r
+      ∙ ap (λ m. min (kept_after s.terms.kept s.terms.term (length (log_at p.logs s.log)) (k.rank t) r) m) is_same) in
+      (done.0, keeps_server (Appended id t c n sent ∷ es) p i new within (rw new_log (go earlier within within_j)) done.1 es keeps)
     where
-      go : (new.log ≤ s.log) ⊎ (new.log ≤ l.log) → i < length p.servers → j < length p.leaders
-          → new.log < length p.logs.logs
+      go : (log ≤ s.log) ⊎ (log ≤ l.log) → i < length p.servers → j < length p.leaders
+          → log < length p.logs.logs
       go (inl h) w v = let o : s.log < length p.logs.logs = keeps.have_logs.of_servers i s w is in omega (arith, h, o)
       go (inr h) w v = let o : l.log < length p.logs.logs = keeps.have_logs.of_leaders j l v is_l in omega (arith, h, o)
 
-  -- a server is replaced by an equal one
+  -- ---- what a step leaves as it was
+
+  -- a server reaches a term, after it has reserved memory
+  pub record Reaches (p : Parts T ID D) (s new : Server ID) (r : ℕ) : Type 0 where
+    pub id : new.id ≡ s.id
+    pub term : new.terms.term ≡ max s.terms.term r
+    pub voted : new.voted ≡ r
+    pub log : new.log ≡ s.log
+    pub durable : new.durable ≡ s.durable
+    pub kept : (q : ℕ) → kept_from 0 new.terms.kept q
+        ≡ kept_after s.terms.kept s.terms.term (length (log_at p.logs s.log)) r q
+
+  reaches : (p : Parts T ID D) (s m new : Server ID) (r len : ℕ)
+      → m ≡ record s { terms = record s.terms { room = m.terms.room } }
+      → len ≡ length (log_at p.logs s.log) → new.terms.term ≡ max m.terms.term r
+      → ((q : ℕ) → kept_from 0 new.terms.kept q ≡ kept_after m.terms.kept m.terms.term len r q)
+      → new ≡ record m { terms = new.terms; voted = r } → Reaches p s new r
+  reaches p s m new r len room is_len term kept rest =
+      let same_term : m.terms.term ≡ s.terms.term = ap (λ (x : Server ID). x.terms.term) room in
+      let same_kept : m.terms.kept ≡ s.terms.kept = ap (λ (x : Server ID). x.terms.kept) room in record {
+        id = ap (λ (x : Server ID). x.id) rest ∙ ap (λ (x : Server ID). x.id) room;
+        term = term ∙ ap (λ n. max n r) same_term;
+        voted = ap (λ (x : Server ID). x.voted) rest;
+        log = ap (λ (x : Server ID). x.log) rest ∙ ap (λ (x : Server ID). x.log) room;
+        durable = ap (λ (x : Server ID). x.durable) rest ∙ ap (λ (x : Server ID). x.durable) room;
+        kept = λ q. kept q ∙ (λ e. kept_after (same_kept e) (same_term e) (is_len e) r q);
+      }
+
+  -- a leader counts an acknowledgement, or a vote
+  pub acked_leader : (p : Parts T ID D) (l new : Leader T ID) → new ≡ record l { acked = new.acked }
+      → LeaderIs (leader_in p.logs new) l.term l.id l.start (log_at p.logs l.log) l.voters.items l.elected l.committed
+  acked_leader p l new rest = record {
+    term = ap (λ (x : Leader T ID). x.term) rest;
+    id = ap (λ (x : Leader T ID). x.id) rest;
+    start = ap (λ (x : Leader T ID). x.start) rest;
+    log = ap (λ (x : Leader T ID). log_at p.logs x.log) rest;
+    voters = ap (λ (x : Leader T ID). x.voters.items) rest;
+    elected = ap (λ (x : Leader T ID). x.elected) rest;
+    committed = ap (λ (x : Leader T ID). x.committed) rest;
+  }
+
+  pub voted_leader : (p : Parts T ID D) (l new : Leader T ID)
+      → new ≡ record l { voters = new.voters; elected = new.elected }
+      → LeaderIs (leader_in p.logs new) l.term l.id l.start (log_at p.logs l.log) new.voters.items new.elected l.committed
+  voted_leader p l new rest = record {
+    term = ap (λ (x : Leader T ID). x.term) rest;
+    id = ap (λ (x : Leader T ID). x.id) rest;
+    start = ap (λ (x : Leader T ID). x.start) rest;
+    log = ap (λ (x : Leader T ID). log_at p.logs x.log) rest;
+    voters = refl;
+    elected = refl;
+    committed = ap (λ (x : Leader T ID). x.committed) rest;
+  }
+
+  -- a server is replaced by one that differs in its memory alone
   pub same_server : (es : List (TraceEvent T ID D)) (p : Parts T ID D) (id : ID) (i : ℕ) (s new : Server ID)
       → position (is_server id) p.servers ≡ Some i → s ≡ get_or p.servers i s → Keeps k es p
-      → new.id ≡ s.id → new.term ≡ s.term → new.voted ≡ s.voted → new.log ≡ s.log
-      → new.durable ≡ s.durable → new.kept.items ≡ s.kept.items → Keeps k es (with_server p i new)
-  same_server es p id i s new at is keeps same_id term vote log dur kept =
-      keeps_server es p i new within (rw log (log_of_server es p i s keeps within is))
+      → new ≡ record s { terms = record s.terms { room = new.terms.room } } → Keeps k es (with_server p i new)
+  same_server es p id i s new at is keeps rest =
+      keeps_server es p i new within
+      (rw (ap (λ (x : Server ID). x.log) rest) (log_of_server es p i s keeps within is))
       (subst (λ (x : List (ServerState T ID D)). HasSeen k es x (leaders_in p)) (sym back) keeps.seen) es keeps
     where
       within : i < length p.servers
       within = within_of (is_server id) p.servers i s at
 
       equal : server_in p.logs new ≡ server_in p.logs s
-      equal = λ q. record {
-        id = same_id q;
-        term = term q;
-        voted = vote q;
-        log = log_at p.logs (log q);
-        durable = dur q;
-        kept = kept q;
-      }
+      equal = ap (server_in p.logs) rest
 
       back : set (servers_in p) i (server_in p.logs new) ≡ servers_in p
       back =
@@ -684,15 +740,13 @@ module _ {T ID D : Type 0} (k : Tests T ID D (Option D)) (exact : AreExact k) wh
       → position (is_leader t c) p.leaders ≡ Some j
       → l0 ≡ get_or p.leaders j l0 → l ≡ get_or p.leaders j l → Keeps k es p
       → ack_rule (same_entry k) (server_in p.logs s0) (leader_in p.logs l0) (k.rank t) n ≡ None
-      → new.id ≡ s.id → new.term ≡ s.term → new.voted ≡ s.voted → new.log ≡ s.log
-      → new.durable ≡ max n s.durable → new.kept.items ≡ s.kept.items
+      → new ≡ record s { durable = max n s.durable }
       → ((v : ID) (m : ℕ) → has_acked_to k.same_id lnew.acked.items v m
       ≡ (has_acked_to k.same_id l.acked.items v m || (k.same_id id v && nat_le m n)))
-      → LeaderIs (leader_in p.logs lnew) l.term l.id l.start (log_at p.logs l.log) l.voters.items l.elected l.committed
-      → lnew.log ≡ l.log
+      → lnew ≡ record l { acked = lnew.acked }
       → (broken_rule k (Acked id t c n) es ≡ None)
       × Keeps k (Acked id t c n ∷ es) (with_leader (with_server p i new) j lnew)
-  ack_done es id t c n p i j s0 s new l0 l lnew at is0 is at_j is_l0 is_l keeps free same_id term vote log dur kept acked same same_log =
+  ack_done es id t c n p i j s0 s new l0 l lnew at is0 is at_j is_l0 is_l keeps free rest acked same =
       let within : i < length p.servers = within_of (is_server id) p.servers i s at in
       let within_j : j < length p.leaders = within_of (is_leader t c) p.leaders j l at_j in
       let one : s0 ≡ s = same_item p.servers i s0 s within is0 is in
@@ -705,10 +759,13 @@ module _ {T ID D : Type 0} (k : Tests T ID D (Option D)) (exact : AreExact k) wh
       (leader_in p.logs l) (leader_in p.logs lnew)
       (server_place p id i at) (item_map (server_in p.logs) p.servers i s is)
       (leader_place_in p t c (Some j) at_j) (item_map (leader_in p.logs) p.leaders j l is_l) keeps.seen now
-      same_id term vote (ap (log_at p.logs) log) dur kept acked same in (
+      (ap (λ (x : Server ID). x.id) rest) (ap (λ (x : Server ID). x.terms.term) rest) (ap (λ (x : Server ID). x.voted) rest)
+      (ap (λ (x : Server ID). log_at p.logs x.log) rest) (ap (λ (x : Server ID). x.durable) rest)
+      (ap (λ (x : Server ID). x.terms.kept) rest) acked (acked_leader p l lnew same) in (
         done.0,
         keeps_both (Acked id t c n ∷ es) p i j new lnew within within_j
-            (rw log (keeps.have_logs.of_servers i s within is)) (rw same_log (keeps.have_logs.of_leaders j l within_j is_l))
+            (rw (ap (λ (x : Server ID). x.log) rest) (keeps.have_logs.of_servers i s within is))
+            (rw (ap (λ (x : Leader T ID). x.log) same) (keeps.have_logs.of_leaders j l within_j is_l))
             done.1 es keeps,
       )
 
@@ -739,28 +796,28 @@ module _ {T ID D : Type 0} (k : Tests T ID D (Option D)) (exact : AreExact k) wh
       (same_item p.leaders j l0 l within_j is_l0 is_l) free)
 
   pub grant_done : (es : List (TraceEvent T ID D)) (id : ID) (t : T) (c : ID)
-      (p : Parts T ID D) (i j : ℕ) (s0 s new : Server ID) (l0 l lnew : Leader T ID) (config : Option D)
+      (p : Parts T ID D) (i j len : ℕ) (s0 s m new : Server ID) (l0 l lnew : Leader T ID) (config : Option D)
       → position (is_server id) p.servers ≡ Some i
       → s0 ≡ get_or p.servers i s0 → s ≡ get_or p.servers i s
       → position (is_leader t c) p.leaders ≡ Some j
       → l0 ≡ get_or p.leaders j l0 → l ≡ get_or p.leaders j l → Keeps k es p
       → grant_rule k.rank k.same_id (server_in p.logs s0) (leader_in p.logs l0) id (k.rank t) c ≡ None
-      → s.term < k.rank t → new.id ≡ s.id → new.term ≡ max s.term (k.rank t) → new.voted ≡ k.rank t
-      → new.log ≡ s.log → new.durable ≡ s.durable
-      → new.kept.items ≡ kept_after s.kept.items s.term (length (log_at p.logs s.log)) (k.rank t)
+      → s.terms.term < k.rank t → m ≡ record s { terms = record s.terms { room = m.terms.room } }
+      → len ≡ length (log_at p.logs s.log) → new.terms.term ≡ max m.terms.term (k.rank t)
+      → ((r : ℕ) → kept_from 0 new.terms.kept r ≡ kept_after m.terms.kept m.terms.term len (k.rank t) r)
+      → new ≡ record m { terms = new.terms; voted = k.rank t }
       → ((v : ID) → is_member k.same_id lnew.voters.items v
       ≡ (is_member k.same_id l.voters.items v || k.same_id v id))
       → (IsDistinct k.same_id l.voters.items → IsDistinct k.same_id lnew.voters.items)
       → (IsDistinct k.same_id l.voters.items
       → lnew.elected ≡ k.quorum_of config (is_member k.same_id lnew.voters.items))
       → config ≡ effective_config k.config_of k.initial (take l.start (log_at p.logs l.log))
-      → lnew.acked.items ≡ l.acked.items
-      → LeaderIs (leader_in p.logs lnew) l.term l.id l.start (log_at p.logs l.log) lnew.voters.items lnew.elected l.committed
-      → lnew.log ≡ l.log
+      → lnew ≡ record l { voters = lnew.voters; elected = lnew.elected }
       → (broken_rule k (Granted id t c) es ≡ None)
       × Keeps k (Granted id t c ∷ es) (with_leader (with_server p i new) j lnew)
-  grant_done es id t c p i j s0 s new l0 l lnew config at is0 is at_j is_l0 is_l keeps free above same_id term vote log dur
-      kept voted distinct elected is_config acked same same_log =
+  grant_done es id t c p i j len s0 s m new l0 l lnew config at is0 is at_j is_l0 is_l keeps free above room is_len term kept
+      rest voted distinct elected is_config same =
+      let reached = reaches p s m new (k.rank t) len room is_len term kept rest in
       let within : i < length p.servers = within_of (is_server id) p.servers i s at in
       let within_j : j < length p.leaders = within_of (is_leader t c) p.leaders j l at_j in
       let at_l : SeesLeader k es t c (leader_in p.logs l) = sees_leader_at es p t c j l at_j is_l keeps in
@@ -769,11 +826,14 @@ module _ {T ID D : Type 0} (k : Tests T ID D (Option D)) (exact : AreExact k) wh
       (server_place p id i at) (item_map (server_in p.logs) p.servers i s is)
       (leader_place_in p t c (Some j) at_j) (item_map (leader_in p.logs) p.leaders j l is_l) keeps.seen
       (grant_free p id t c i j s0 s l0 l within within_j is0 is is_l0 is_l free)
-      above same_id term vote (ap (log_at p.logs) log) dur kept voted (distinct at_l.distinct)
-      (elected at_l.distinct ∙ ap (λ x. k.quorum_of x (is_member k.same_id lnew.voters.items)) is_config) acked same in (
+      above reached.id reached.term reached.voted (ap (log_at p.logs) reached.log) reached.durable reached.kept voted
+      (distinct at_l.distinct)
+      (elected at_l.distinct ∙ ap (λ x. k.quorum_of x (is_member k.same_id lnew.voters.items)) is_config)
+      (ap (λ (x : Leader T ID). x.acked.items) same) (voted_leader p l lnew same) in (
         done.0,
         keeps_both (Granted id t c ∷ es) p i j new lnew within within_j
-            (rw log (keeps.have_logs.of_servers i s within is)) (rw same_log (keeps.have_logs.of_leaders j l within_j is_l))
+            (rw reached.log (keeps.have_logs.of_servers i s within is))
+            (rw (ap (λ (x : Leader T ID). x.log) same) (keeps.have_logs.of_leaders j l within_j is_l))
             done.1 es keeps,
       )
 
@@ -783,20 +843,22 @@ module _ {T ID D : Type 0} (k : Tests T ID D (Option D)) (exact : AreExact k) wh
       → s0 ≡ get_or p.servers i s0 → s ≡ get_or p.servers i s
       → position (is_leader t c) p.leaders ≡ Some j → l ≡ get_or p.leaders j l → Keeps k es p
       → grant_rule k.rank k.same_id (server_in p.logs s0) (leader_in p.logs l) id (k.rank t) c ≡ None
-      → k.rank t ≤ s.term → new.id ≡ s.id → new.term ≡ s.term → new.voted ≡ k.rank t
-      → new.log ≡ s.log → new.durable ≡ s.durable → new.kept.items ≡ s.kept.items
+      → k.rank t ≤ s.terms.term → new ≡ record s { voted = k.rank t }
       → (broken_rule k (Granted id t c) es ≡ None)
       × Keeps k (Granted id t c ∷ es) (with_server p i new)
-  late_vote_done es id t c p i j s0 s new l at is0 is at_j is_l keeps free reached same_id term vote log dur kept =
+  late_vote_done es id t c p i j s0 s new l at is0 is at_j is_l keeps free reached rest =
       let within : i < length p.servers = within_of (is_server id) p.servers i s at in
       let within_j : j < length p.leaders = within_of (is_leader t c) p.leaders j l at_j in
       let done = late_vote_seen k exact es id t c (servers_in p) (leaders_in p) i j (server_in p.logs s) (server_in p.logs new)
       (leader_in p.logs l) (server_place p id i at) (item_map (server_in p.logs) p.servers i s is)
       (leader_place_in p t c (Some j) at_j) (item_map (leader_in p.logs) p.leaders j l is_l) keeps.seen
       (grant_free p id t c i j s0 s l l within within_j is0 is is_l is_l free)
-      reached same_id term vote (ap (log_at p.logs) log) dur kept in (
+      reached (ap (λ (x : Server ID). x.id) rest) (ap (λ (x : Server ID). x.terms.term) rest)
+      (ap (λ (x : Server ID). x.voted) rest) (ap (λ (x : Server ID). log_at p.logs x.log) rest)
+      (ap (λ (x : Server ID). x.durable) rest) (ap (λ (x : Server ID). x.terms.kept) rest) in (
         done.0,
-        keeps_server (Granted id t c ∷ es) p i new within (rw log (keeps.have_logs.of_servers i s within is)) done.1 es keeps,
+        keeps_server (Granted id t c ∷ es) p i new within
+            (rw (ap (λ (x : Server ID). x.log) rest) (keeps.have_logs.of_servers i s within is)) done.1 es keeps,
       )
 
   -- ---- campaigns
@@ -811,7 +873,7 @@ module _ {T ID D : Type 0} (k : Tests T ID D (Option D)) (exact : AreExact k) wh
 
   pub campaign_passed : (es : List (TraceEvent T ID D)) (t : T) (c : ID) (p : Parts T ID D) (i : ℕ) (s : Server ID)
       → position (is_server c) p.servers ≡ Some i → s ≡ get_or p.servers i s
-      → position (is_leader t c) p.leaders ≡ None → Keeps k es p → k.rank t ≤ s.term
+      → position (is_leader t c) p.leaders ≡ None → Keeps k es p → k.rank t ≤ s.terms.term
       → (broken_rule k (Campaigned c t) es ≡ Some PassedTerm) × Keeps k es p
   campaign_passed es t c p i s at is absent keeps below = (
     (campaign_refused k exact es t c (servers_in p) (servers_in p) (leaders_in p) i (server_in p.logs s)
@@ -823,7 +885,7 @@ module _ {T ID D : Type 0} (k : Tests T ID D (Option D)) (exact : AreExact k) wh
   -- a server has not campaigned in a term that it has not reached
   no_campaign : (es : List (TraceEvent T ID D)) (t : T) (c : ID) (p : Parts T ID D) (i : ℕ) (s : Server ID)
       → position (is_server c) p.servers ≡ Some i → s ≡ get_or p.servers i s → Keeps k es p
-      → s.term < k.rank t → position (is_leader t c) p.leaders ≡ None
+      → s.terms.term < k.rank t → position (is_leader t c) p.leaders ≡ None
   no_campaign es t c p i s at is keeps above = go (position (is_leader t c) p.leaders) refl
     where
       go : (o : Option ℕ) → position (is_leader t c) p.leaders ≡ o → o ≡ None
@@ -836,17 +898,18 @@ module _ {T ID D : Type 0} (k : Tests T ID D (Option D)) (exact : AreExact k) wh
           (leader_seen k exact es (leaders_in p) t c j (leader_in p.logs found.0) keeps.seen.see_leaders
           (leader_place_in p t c (Some j) e)) in
           let at_s : SeesServer k (events_in k es c) (server_in p.logs s) = sees_server_at es p c i s at is keeps in
-          let below : k.rank t ≤ s.term = at_s.votes t c (at_l.voted c ∙ at_l.own_vote) in
+          let below : k.rank t ≤ s.terms.term = at_s.votes t c (at_l.voted c ∙ at_l.own_vote) in
           absurd (omega (arith, below, above))
 
-  pub campaign_done : (es : List (TraceEvent T ID D)) (t : T) (c : ID) (p : Parts T ID D) (i : ℕ)
-      (s0 s new : Server ID) (lnew : Leader T ID) (config : Option D)
+  pub campaign_done : (es : List (TraceEvent T ID D)) (t : T) (c : ID) (p : Parts T ID D) (i len : ℕ)
+      (s0 s m new : Server ID) (lnew : Leader T ID) (config : Option D)
       → position (is_server c) p.servers ≡ Some i
       → s0 ≡ get_or p.servers i s0 → s ≡ get_or p.servers i s
-      → Keeps k es p → s0.term < k.rank t
-      → new.id ≡ s.id → new.term ≡ max s.term (k.rank t) → new.voted ≡ k.rank t → new.log ≡ s.log
-      → new.durable ≡ s.durable
-      → new.kept.items ≡ kept_after s.kept.items s.term (length (log_at p.logs s.log)) (k.rank t)
+      → Keeps k es p → s0.terms.term < k.rank t
+      → m ≡ record s { terms = record s.terms { room = m.terms.room } }
+      → len ≡ length (log_at p.logs s.log) → new.terms.term ≡ max m.terms.term (k.rank t)
+      → ((r : ℕ) → kept_from 0 new.terms.kept r ≡ kept_after m.terms.kept m.terms.term len (k.rank t) r)
+      → new ≡ record m { terms = new.terms; voted = k.rank t }
       → lnew.elected ≡ k.quorum_of config (is_member k.same_id (c ∷ []))
       → config ≡ effective_config k.config_of k.initial (log_at p.logs s.log)
       → lnew.acked.items ≡ []
@@ -854,22 +917,23 @@ module _ {T ID D : Type 0} (k : Tests T ID D (Option D)) (exact : AreExact k) wh
       → lnew.log ≡ s.log
       → (broken_rule k (Campaigned c t) es ≡ None)
       × Keeps k (Campaigned c t ∷ es) (with_leaders (with_server p i new) (lnew ∷ p.leaders))
-  campaign_done es t c p i s0 s new lnew config at is0 is keeps above same_id term vote log dur kept elected is_config acked
+  campaign_done es t c p i len s0 s m new lnew config at is0 is keeps above room is_len term kept rest elected is_config acked
       same same_log =
+      let reached = reaches p s m new (k.rank t) len room is_len term kept rest in
       let within : i < length p.servers = within_of (is_server c) p.servers i s at in
       let one : s0 ≡ s = same_item p.servers i s0 s within is0 is in
       let old_log : s.log < length p.logs.logs = keeps.have_logs.of_servers i s within is in
       let done = campaign_seen k exact es t c (servers_in p) (leaders_in p) i (server_in p.logs s) (server_in p.logs new)
       (leader_in p.logs lnew) (server_place p c i at) (item_map (server_in p.logs) p.servers i s is)
       (leader_place_in p t c None (no_campaign es t c p i s0 at is0 keeps above)) keeps.seen
-      (subst (λ (x : Server ID). x.term < k.rank t) one above)
-      same_id term vote (ap (log_at p.logs) log) dur kept
+      (subst (λ (x : Server ID). x.terms.term < k.rank t) one above)
+      reached.id reached.term reached.voted (ap (log_at p.logs) reached.log) reached.durable reached.kept
       (elected ∙ ap (λ x. k.quorum_of x (is_member k.same_id (c ∷ []))) is_config) acked same in (
         done.0,
         record {
           are_logs = keeps.are_logs;
           have_logs = have_more (with_server p i new) lnew
-              (have_server p i new keeps.have_logs within (rw log old_log)) (rw same_log old_log);
+              (have_server p i new keeps.have_logs within (rw reached.log old_log)) (rw same_log old_log);
           seen = subst (λ (x : List (ServerState T ID D)). HasSeen k (Campaigned c t ∷ es) x (leader_in p.logs lnew ∷ leaders_in p))
               (sym (map-set (server_in p.logs) p.servers i new)) done.1;
         },
@@ -893,13 +957,12 @@ module _ {T ID D : Type 0} (k : Tests T ID D (Option D)) (exact : AreExact k) wh
       → k.initial ≡ None → position (is_leader t c) p.leaders ≡ Some j
       → l0 ≡ get_or p.leaders j l0 → l1 ≡ get_or p.leaders j l1 → l ≡ get_or p.leaders j l → Keeps k es p
       → write_rule k.same_term holds k.intersect (leader_in p.logs l0) t e ≡ None
-      → IsChild (λ d. is_some (k.config_of d)) p.logs l1.log e logs lnew.log
-      → lnew.acked.items ≡ l.acked.items → lnew.term ≡ l.term → lnew.id ≡ l.id → lnew.start ≡ l.start
-      → lnew.voters.items ≡ l.voters.items → lnew.elected ≡ l.elected → lnew.committed ≡ l.committed
+      → (log : ℕ) → IsChild (λ d. is_some (k.config_of d)) p.logs l1.log e logs log
+      → lnew ≡ record l { log = log }
       → (broken_rule k (Wrote c t e) es ≡ None)
       × Keeps k (Wrote c t e ∷ es) (record { logs = logs; servers = p.servers; leaders = set p.leaders j lnew })
-  write_done es t c e p j logs l0 l1 l lnew holds is_holds initial at_j is_l0 is_l1 is_l keeps free child acked term id start
-      voters elected committed =
+  write_done es t c e p j logs l0 l1 l lnew holds is_holds initial at_j is_l0 is_l1 is_l keeps free log child rest =
+      let is_log : lnew.log ≡ log = ap (λ (x : Leader T ID). x.log) rest in
       let within_j : j < length p.leaders = within_of (is_leader t c) p.leaders j l at_j in
       let one : l0 ≡ l = same_item p.leaders j l0 l within_j is_l0 is_l in
       let other : l1 ≡ l = same_item p.leaders j l1 l within_j is_l1 is_l in
@@ -907,18 +970,19 @@ module _ {T ID D : Type 0} (k : Tests T ID D (Option D)) (exact : AreExact k) wh
       let now : write_rule k.same_term holds k.intersect (leader_in p.logs l) t e ≡ None =
       subst (λ (x : Leader T ID). write_rule k.same_term holds k.intersect (leader_in p.logs x) t e ≡ None) one free in
       let new_log : log_at logs lnew.log ≡ log_at p.logs l.log ++ e ∷ [] =
-      child.is ∙ ap (λ (x : Leader T ID). log_at p.logs x.log ++ e ∷ []) other in
+      ap (log_at logs) is_log ∙ child.is ∙ ap (λ (x : Leader T ID). log_at p.logs x.log ++ e ∷ []) other in
       let done = write_seen k exact es t c e (servers_in p) (leaders_in p) j (leader_in p.logs l) (leader_in logs lnew)
       (leader_place_in p t c (Some j) at_j) (item_map (leader_in p.logs) p.leaders j l is_l) keeps.seen
-      (write_right k exact es t c e (leader_in p.logs l) holds is_holds initial at_l ∙ now) acked
+      (write_right k exact es t c e (leader_in p.logs l) holds is_holds initial at_l ∙ now)
+      (ap (λ (x : Leader T ID). x.acked.items) rest)
       (record {
-        term = term;
-        id = id;
-        start = start;
+        term = ap (λ (x : Leader T ID). x.term) rest;
+        id = ap (λ (x : Leader T ID). x.id) rest;
+        start = ap (λ (x : Leader T ID). x.start) rest;
         log = new_log;
-        voters = voters;
-        elected = elected;
-        committed = committed;
+        voters = ap (λ (x : Leader T ID). x.voters.items) rest;
+        elected = ap (λ (x : Leader T ID). x.elected) rest;
+        committed = ap (λ (x : Leader T ID). x.committed) rest;
       }) in
       let same_s : map (server_in logs) p.servers ≡ servers_in p =
       same_servers p.logs logs p.servers (λ i s h is. child.kept s.log (keeps.have_logs.of_servers i s h is)) in
@@ -934,7 +998,7 @@ module _ {T ID D : Type 0} (k : Tests T ID D (Option D)) (exact : AreExact k) wh
         done.0,
         record {
           are_logs = child.logs;
-          have_logs = have_leader grown j lnew have within_j child.within;
+          have_logs = have_leader grown j lnew have within_j (rw is_log child.within);
           seen = subst (λ (x : List (LeaderState T ID D)). HasSeen k (Wrote c t e ∷ es) (map (server_in logs) p.servers) x)
               (ap (λ (x : List (LeaderState T ID D)). set x j (leader_in logs lnew)) (sym same_l)
               ∙ sym (map-set (leader_in logs) p.leaders j lnew))
@@ -1024,14 +1088,11 @@ module _ {T ID D : Type 0} (k : Tests T ID D (Option D)) (exact : AreExact k) wh
       → ((v : ID) → is_member k.same_id ids v ≡ has_acked_to k.same_id l1.acked.items v n)
       → config ≡ effective_config k.config_of k.initial (take m (log_at p.logs l2.log))
       → quorum ≡ k.quorum_of config (is_member k.same_id ids) → quorum ≡ true
-      → lnew.acked.items ≡ l3.acked.items
-      → LeaderIs (leader_in p.logs lnew) l3.term l3.id l3.start (log_at p.logs l3.log) l3.voters.items l3.elected
-      (Some (max (unwrap_or l3.committed 0) n))
-      → lnew.log ≡ l3.log
+      → lnew ≡ record l3 { committed = Some (max (unwrap_or l3.committed 0) n) }
       → (broken_rule k (Committed c t n m) es ≡ None)
       × Keeps k (Committed c t n m ∷ es) (with_leader p j lnew)
   commit_done es t c n m p j l l1 l2 l3 lnew ids config quorum at_j is is1 is2 is3 keeps free members is_config counted enough
-      acked same same_log =
+      rest =
       let tested : broken_rule k (Committed c t n m) es ≡ unless quorum NoQuorum None =
       commit_tested es t c n m p j l l1 l2 ids config quorum at_j is is1 is2 keeps free members is_config counted in
       let within : j < length p.leaders = within_of (is_leader t c) p.leaders j l at_j in
@@ -1040,10 +1101,19 @@ module _ {T ID D : Type 0} (k : Tests T ID D (Option D)) (exact : AreExact k) wh
       subst (λ (x : Leader T ID). n ≤ length (log_at p.logs x.log)) q3 (commit_short (leader_in p.logs l) n m free) in
       let done = commit_seen k exact es t c n m (servers_in p) (leaders_in p) j (leader_in p.logs l3) (leader_in p.logs lnew)
       (leader_place_in p t c (Some j) at_j) (item_map (leader_in p.logs) p.leaders j l3 is3) keeps.seen
-      (tested ∙ ap (λ b. unless b NoQuorum None) enough) short acked same in (
+      (tested ∙ ap (λ b. unless b NoQuorum None) enough) short (ap (λ (x : Leader T ID). x.acked.items) rest)
+      (record {
+        term = ap (λ (x : Leader T ID). x.term) rest;
+        id = ap (λ (x : Leader T ID). x.id) rest;
+        start = ap (λ (x : Leader T ID). x.start) rest;
+        log = ap (λ (x : Leader T ID). log_at p.logs x.log) rest;
+        voters = ap (λ (x : Leader T ID). x.voters.items) rest;
+        elected = ap (λ (x : Leader T ID). x.elected) rest;
+        committed = ap (λ (x : Leader T ID). x.committed) rest;
+      }) in (
         done.0,
         keeps_leader (Committed c t n m ∷ es) p j lnew within
-            (rw same_log (keeps.have_logs.of_leaders j l3 within is3)) done.1 es keeps,
+            (rw (ap (λ (x : Leader T ID). x.log) rest) (keeps.have_logs.of_leaders j l3 within is3)) done.1 es keeps,
       )
 
   -- ---- what is applied

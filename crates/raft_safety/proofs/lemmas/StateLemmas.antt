@@ -30,7 +30,7 @@ use Rattle.std.specs.Option.{option_or}
 use Rattle.std.proofs.Common.{refl, sym, ap, ◌∙◌, arith}
 use Rattle.std.specs.Cmp.{first_so, second_so}
 use Rattle.std.proofs.lemmas.Bool.{eqb-true, le-leb, leb-true, lt-leb, ne_eqb}
-use Rattle.std.proofs.lemmas.List.{drop-take, take-append-drop, take-take}
+use Rattle.std.proofs.lemmas.List.{drop-take, length-take, take-append-drop, take-take}
 use Rattle.raft_safety.specs.Log.{Entry, last_term, last_term_or}
 use Rattle.raft_safety.specs.Trace.{unless}
 use Rattle.raft_safety.specs.Inner.CheckerState.{LeaderState, ServerState, append_rule, common_len}
@@ -43,6 +43,7 @@ use Rattle.raft_safety.specs.declared.rule.Rule.TheVariants.{
   NotElected,
   PassedTerm,
 }
+use Rattle.raft_safety.proofs.lemmas.CheckedLogLemmas.{common_short}
 use Rattle.raft_safety.proofs.lemmas.RuleLemmas.{first_none, rest_none}
 
 module _ {E : Type 0} (S : E → E → Bool) (exact : IsExact S) where
@@ -83,6 +84,23 @@ module _ {E : Type 0} (S : E → E → Bool) (exact : IsExact S) where
           let tl : take n a ≡ take n b = rest (omega (arith, e)) in
           λ q. hd q ∷ tl q
       go false s e rest = absurd (omega (arith, e))
+
+  -- more entries are not committed than a leader has committed
+  pub too_long : (a : Bool) (n : ℕ) (p log : List E) → n < length p
+      → false ≡ (a && nat_eq (common_len S p (take n log)) (length p))
+  too_long a n p log h = sym (ap (λ b. a && b) apart ∙ no a)
+    where
+      short : common_len S p (take n log) ≤ length (take n log)
+      short = common_short S exact.right exact.itself p (take n log)
+
+      apart : nat_eq (common_len S p (take n log)) (length p) ≡ false
+      apart =
+          ne_eqb (common_len S p (take n log)) (length p)
+          (λ e. omega (arith, short, length-take n log, e, h))
+
+      no : (b : Bool) → (b && false) ≡ false
+      no true = refl
+      no false = refl
 
 module _ {T N D : Type 0} (same : Entry T D → Entry T D → Bool) where
   -- what an append that breaks no rule appends

@@ -51,7 +51,7 @@ use Rattle.raft_safety.specs.declared.rule.Rule.TheVariants.{
   CountedEarly,
   NotInLog,
 }
-use Rattle.raft_safety.specs.declared.checker.server.Kept.{Kept}
+use Rattle.raft_safety.specs.declared.checker.terms.Kept.{Kept}
 use Rattle.raft_safety.specs.declared.checker.leader.Acked.{Acked}
 
 -- what is kept of a server, with the entries of its log
@@ -102,13 +102,10 @@ abbrev pub kept_from : ℕ → List Kept → ℕ → ℕ
 kept_from n [] r = n
 kept_from n (k ∷ ks) r = kept_from (if nat_le k.term r then k.len else n) ks r
 
--- at most so many first entries are kept
-abbrev pub at_most : ℕ → Kept → Kept
-at_most n k = record { term = k.term; len = min k.len n }
-
--- what is kept, after a server of this term and number of entries has reached a term
-abbrev pub kept_after : List Kept → ℕ → ℕ → ℕ → List Kept
-kept_after ks term len next = if nat_lt term next then ks ++ record { term = term; len = len } ∷ [] else ks
+-- the same, after a server of this term and number of entries has reached another term
+abbrev pub kept_after : List Kept → ℕ → ℕ → ℕ → ℕ → ℕ
+kept_after ks term len next r =
+    if nat_lt term next then (if nat_le term r then len else min (kept_from 0 ks r) len) else kept_from 0 ks r
 
 -- a server has acknowledged so many entries or more
 abbrev pub has_acked_to : {N : Type 0} → (N → N → Bool) → List (Acked N) → N → ℕ → Bool

@@ -17,11 +17,11 @@ module _ {T N D : Type 0} where
   abbrev pub server_in : AllLogs T D → Server N → ServerState T N D
   server_in logs s = record {
     id = s.id;
-    term = s.term;
+    term = s.terms.term;
     voted = s.voted;
     log = log_at logs s.log;
     durable = s.durable;
-    kept = s.kept.items;
+    kept = s.terms.kept;
   }
 
   -- what is kept of a candidate or leader, with the entries of its log
@@ -53,11 +53,11 @@ module _ {T N D : Type 0} where
 -- nothing is kept of a server
 pub record IsNew {N : Type 0} (id : N) (s : Server N) : Type 0 where
   pub is_id : s.id ≡ id
-  pub term : s.term ≡ 0
+  pub term : s.terms.term ≡ 0
   pub voted : s.voted ≡ 0
   pub log : s.log ≡ 0
   pub durable : s.durable ≡ 0
-  pub kept : s.kept.items ≡ []
+  pub kept : s.terms.kept ≡ []
 
 -- no server passed the test, and a new server of this id was added at the end
 pub record IsPushed {N : Type 0} (p : Server N → Bool) (id : N) (old new : List (Server N)) : Type 0 where

@@ -25,7 +25,7 @@ pub fn grant_rule<T: Term, N: Copy + Eq, D: Copy + Eq>(
     ensures { result ≡ grant_rule T.rank N.eq (server_in logs.now server.now)
         (leader_in logs.now leader.now) id rank candidate }
 {
-    if rank < server.term || rank <= server.voted {
+    if rank < server.term() || rank <= server.voted {
         return Some(Rule::PassedTerm);
     }
     if candidate == id {
@@ -74,7 +74,7 @@ pub fn append_rule<T: Term, N: Copy + Eq, D: Copy + Eq>(
     if !leader.elected {
         return Some(Rule::NotElected);
     }
-    if rank < server.term {
+    if rank < server.term() {
         return Some(Rule::PassedTerm);
     }
     if logs.len(server.log) < keep {
@@ -132,7 +132,7 @@ pub fn ack_rule<T: Term, N: Copy + Eq, D: Copy + Eq>(
     if !leader.elected {
         return Some(Rule::NotElected);
     }
-    if server.term < rank {
+    if server.term() < rank {
         return Some(Rule::TermNotReached);
     }
     if logs.len(leader.log) < len {
@@ -274,7 +274,13 @@ pub fn knows<T: Term, N: Copy + Eq, D: Copy + Eq>(
 {
     match leader.committed {
         Some(len) => {
-            leader.term.rank() <= rank && logs.begins_with(logs.first(leader.log, len), prefix)
+            if rank < leader.term.rank() {
+                return false;
+            }
+            if len < logs.len(prefix) {
+                return false;
+            }
+            logs.begins_with(logs.first(leader.log, len), prefix)
         }
         None => false,
     }

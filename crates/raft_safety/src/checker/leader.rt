@@ -99,12 +99,10 @@ impl<T: Copy, N: Copy + Eq> Leader<T, N> {
             (is_member N.eq self.new.voters.items)) }
         ensures err_voters { OnErr result (self.new.voters.items ≡ self.old.voters.items) }
         ensures err_elected { OnErr result (self.new.elected ≡ self.old.elected) }
-        ensures same_term { self.new.term ≡ self.old.term }
-        ensures same_id { self.new.id ≡ self.old.id }
-        ensures same_start { self.new.start ≡ self.old.start }
-        ensures same_log { self.new.log ≡ self.old.log }
-        ensures same_acked { self.new.acked.items ≡ self.old.acked.items }
-        ensures same_committed { self.new.committed ≡ self.old.committed }
+        ensures rest { self.new ≡ record self.old {
+          voters = self.new.voters;
+          elected = self.new.elected;
+        } }
     {
         add_once(&mut self.voters, server)?;
         self.elected = configs.is_quorum(config, &self.voters);
@@ -113,14 +111,7 @@ impl<T: Copy, N: Copy + Eq> Leader<T, N> {
 
     /// Writes an entry. This is the log of the leader then.
     pub fn write(&mut self, log: usize)
-        ensures log { self.new.log ≡ log }
-        ensures same_term { self.new.term ≡ self.old.term }
-        ensures same_id { self.new.id ≡ self.old.id }
-        ensures same_start { self.new.start ≡ self.old.start }
-        ensures same_voters { self.new.voters.items ≡ self.old.voters.items }
-        ensures same_elected { self.new.elected ≡ self.old.elected }
-        ensures same_acked { self.new.acked.items ≡ self.old.acked.items }
-        ensures same_committed { self.new.committed ≡ self.old.committed }
+        ensures { self.new ≡ record self.old { log = log } }
     {
         self.log = log;
     }
@@ -134,13 +125,7 @@ impl<T: Copy, N: Copy + Eq> Leader<T, N> {
         ensures acked { OnOk result ((v : N) (n : ℕ) → has_acked_to N.eq self.new.acked.items v n
             ≡ (has_acked_to N.eq self.old.acked.items v n || (N.eq server v && nat_le n len))) }
         ensures err_acked { OnErr result (self.new.acked.items ≡ self.old.acked.items) }
-        ensures same_term { self.new.term ≡ self.old.term }
-        ensures same_id { self.new.id ≡ self.old.id }
-        ensures same_start { self.new.start ≡ self.old.start }
-        ensures same_log { self.new.log ≡ self.old.log }
-        ensures same_voters { self.new.voters.items ≡ self.old.voters.items }
-        ensures same_elected { self.new.elected ≡ self.old.elected }
-        ensures same_committed { self.new.committed ≡ self.old.committed }
+        ensures rest { self.new ≡ record self.old { acked = self.new.acked } }
     {
         match acked_at(&self.acked, server) {
             Some(i) => self.acked[i].len = self.acked[i].len.max(len),
@@ -170,14 +155,9 @@ impl<T: Copy, N: Copy + Eq> Leader<T, N> {
 
     /// Commits first entries.
     pub fn commit(&mut self, len: usize)
-        ensures committed { self.new.committed ≡ Some (max (unwrap_or self.old.committed 0) len) }
-        ensures same_term { self.new.term ≡ self.old.term }
-        ensures same_id { self.new.id ≡ self.old.id }
-        ensures same_start { self.new.start ≡ self.old.start }
-        ensures same_log { self.new.log ≡ self.old.log }
-        ensures same_voters { self.new.voters.items ≡ self.old.voters.items }
-        ensures same_elected { self.new.elected ≡ self.old.elected }
-        ensures same_acked { self.new.acked.items ≡ self.old.acked.items }
+        ensures { self.new ≡ record self.old {
+          committed = Some (max (unwrap_or self.old.committed 0) len);
+        } }
     {
         let committed = self.committed.unwrap_or(0);
         self.committed = Some(committed.max(len));

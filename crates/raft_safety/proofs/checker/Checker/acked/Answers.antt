@@ -1,11 +1,12 @@
 use Rattle.std.proofs.Common.{ap, sym}
 use Rattle.std.proofs.lemmas.Result.{err_from_is_err_and}
 use Rattle.raft_safety.specs.Checker.{kept_by}
-use Rattle.raft_safety.specs.Inner.Logs.{log_at}
+use Rattle.raft_safety.specs.declared.checker.leader.Leader.{Leader}
 use Rattle.raft_safety.proofs.lemmas.CheckerStepLemmas.{
   ack_done,
   ack_refused,
   ack_unled,
+  acked_leader,
   exact_entries,
   keeps_at,
   same_leader_again,
@@ -43,16 +44,8 @@ returns-in_err-ack-clause-answer g c =
           c.index_mut.result.now c.ack.new.self (sym c.in-Some.ensures.place) c.index_mut.ensures.value
           (keeps_at _ exact es c.args.server (kept_by c.args.self.now) c.server_at.new.servers.items c.in_ok-i.i c.in_ok-i.ensures.at keeps)
           c.in_err-ack.ensures.err_acked
-          (record {
-            term = c.in_err-ack.ensures.same_term;
-            id = c.in_err-ack.ensures.same_id;
-            start = c.in_err-ack.ensures.same_start;
-            log = ap (log_at c.args.self.now.logs) c.in_err-ack.ensures.same_log;
-            voters = c.in_err-ack.ensures.same_voters;
-            elected = c.in_err-ack.ensures.same_elected;
-            committed = c.in_err-ack.ensures.same_committed;
-          })
-          c.in_err-ack.ensures.same_log,
+          (acked_leader _ exact (kept_by c.args.self.now) c.index_mut.result.now c.ack.new.self c.in_err-ack.ensures.rest)
+          (ap (λ (l : Leader g.row.T.Denot g.row.N.Denot). l.log) c.in_err-ack.ensures.rest),
     ))
 
 pub returns-clause-answer : goal.returns-clause-answer
@@ -64,18 +57,7 @@ returns-clause-answer g c =
     c.index-2.ensures c.index_mut.ensures.value
     (keeps_at _ exact es c.args.server (kept_by c.args.self.now) c.server_at.new.servers.items c.in_ok-i.i c.in_ok-i.ensures.at keeps)
     (rw c.rank-rank.ensures at (sym (c.in-None-ack_rule.ensures (exact_entries _ exact) keeps.are_logs.distinct)))
-    c.ack-2.ensures.same_id c.ack-2.ensures.same_term c.ack-2.ensures.same_voted c.ack-2.ensures.same_log
-    c.ack-2.ensures.durable c.ack-2.ensures.same_kept c.in_ok-ack.ensures.acked
-    (record {
-      term = c.in_ok-ack.ensures.same_term;
-      id = c.in_ok-ack.ensures.same_id;
-      start = c.in_ok-ack.ensures.same_start;
-      log = ap (log_at c.args.self.now.logs) c.in_ok-ack.ensures.same_log;
-      voters = c.in_ok-ack.ensures.same_voters;
-      elected = c.in_ok-ack.ensures.same_elected;
-      committed = c.in_ok-ack.ensures.same_committed;
-    })
-    c.in_ok-ack.ensures.same_log
+    c.ack-2.ensures c.in_ok-ack.ensures.acked c.in_ok-ack.ensures.rest
 
 pub index-requires : goal.index-requires
 index-requires g c = within_len _ _ _ c.server_at.new.servers.ok.0 c.in_ok-i.ensures.within

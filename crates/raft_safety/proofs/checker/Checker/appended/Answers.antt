@@ -1,7 +1,6 @@
-use Rattle.std.proofs.Common.{◌+◌, ◌∙◌, ap, sym}
+use Rattle.std.proofs.Common.{◌+◌, ap, sym}
 use Rattle.std.proofs.lemmas.Result.{err_from_is_err_and}
 use Rattle.raft_safety.specs.Checker.{kept_by}
-use Rattle.raft_safety.specs.Inner.Logs.{log_at}
 use Rattle.raft_safety.proofs.lemmas.CheckerStepLemmas.{
   append_done,
   append_refused,
@@ -41,8 +40,7 @@ returns-in_err-append-clause-answer g c =
       same_server _ exact es (with_servers (kept_by c.args.self.now) c.server_at.new.servers.items) c.args.server c.in_ok-i.i
           c.index_mut-follower.result.now c.append.new.self c.in_ok-i.ensures.at.0 c.index_mut-follower.ensures.value
           (keeps_at _ exact es c.args.server (kept_by c.args.self.now) c.server_at.new.servers.items c.in_ok-i.i c.in_ok-i.ensures.at keeps)
-          c.in_err-append.ensures.same_id c.in_err-append.ensures.err_term c.in_err-append.ensures.same_voted
-          c.in_err-append.ensures.err_log c.in_err-append.ensures.err_durable c.in_err-append.ensures.err_kept,
+          c.in_err-append.ensures.err,
     ))
 
 pub returns-clause-answer : goal.returns-clause-answer
@@ -55,12 +53,9 @@ returns-clause-answer g c =
     (keeps_at _ exact es c.args.server (kept_by c.args.self.now) c.server_at.new.servers.items c.in_ok-i.i c.in_ok-i.ensures.at keeps)
     (rw c.rank-rank.ensures at (sym (c.in-None-append_rule.ensures.rule (exact_entries _ exact) keeps.are_logs.distinct)))
     (ap (λ n. c.args.keep + n) c.common_with.ensures.common)
-    (λ free. ap (log_at c.args.self.now.logs) c.in_ok-append.ensures.log ∙ c.next_log-log.ensures.log
-    (g.T.Term.rank c.args.term) (exact_entries _ exact) free)
-    (rw c.in_ok-append.ensures.log c.next_log-log.ensures.earlier)
-    c.in_ok-append.ensures.same_id (rw c.rank-rank.ensures at c.in_ok-append.ensures.term) c.in_ok-append.ensures.same_voted
-    c.in_ok-append.ensures.durable
-    (rw (c.rank-rank.ensures, c.len-len.ensures.len) at c.in_ok-append.ensures.kept)
+    c.next_log-log.result (c.next_log-log.ensures.log (g.T.Term.rank c.args.term) (exact_entries _ exact))
+    c.next_log-log.ensures.earlier (rw c.rank-rank.ensures at c.in_ok-append.ensures.term)
+    (rw (c.rank-rank.ensures, c.len-len.ensures.len) at c.in_ok-append.ensures.kept) c.in_ok-append.ensures.rest
 
 pub index-requires : goal.index-requires
 index-requires g c = within_len _ _ _ c.server_at.new.servers.ok.0 c.in_ok-i.ensures.within

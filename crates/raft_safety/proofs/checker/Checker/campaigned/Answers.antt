@@ -1,7 +1,7 @@
-use Rattle.std.proofs.Common.{◌∙◌, ap, max, refl, sym}
+use Rattle.std.proofs.Common.{◌∙◌, ap, refl, sym}
 use Rattle.std.proofs.lemmas.Result.{err_from_is_err_and}
 use Rattle.raft_safety.specs.Checker.{kept_by}
-use Rattle.raft_safety.specs.Inner.CheckerState.{kept_after}
+use Rattle.raft_safety.specs.declared.checker.server.Server.{Server}
 use Rattle.raft_safety.specs.Inner.Logs.{log_at}
 use Rattle.raft_safety.proofs.lemmas.CheckerStepLemmas.{
   campaign_done,
@@ -33,7 +33,7 @@ returns-in-None-clause-answer g c =
     (with_servers (kept_by c.args.self.now) c.server_at.new.servers.items) c.in_ok-i.i
     c.index.result.now c.in_ok-i.ensures.at.0 c.index.ensures (sym c.in-None.ensures.place)
     (keeps_at _ exact es c.args.server (kept_by c.args.self.now) c.server_at.new.servers.items c.in_ok-i.i c.in_ok-i.ensures.at keeps)
-    (rw c.rank-rank.ensures at c.if-rank-index.true)
+    (rw (c.rank-rank.ensures, c.term.ensures) at c.if-rank-term.true)
 
 pub returns-in_err-reserve-clause-answer : goal.returns-in_err-reserve-clause-answer
 returns-in_err-reserve-clause-answer g c =
@@ -44,7 +44,7 @@ returns-in_err-reserve-clause-answer g c =
           c.server_at.new.servers.items) c.args.server c.in_ok-i.i
           c.index_mut-voter.result.now c.index_mut-voter.result.now c.in_ok-i.ensures.at.0 c.index_mut-voter.ensures.value
           (keeps_at _ exact es c.args.server (kept_by c.args.self.now) c.server_at.new.servers.items c.in_ok-i.i c.in_ok-i.ensures.at keeps)
-          refl refl refl refl refl refl),
+          refl),
     ))
 
 pub returns-in_err-make_room-clause-answer : goal.returns-in_err-make_room-clause-answer
@@ -56,8 +56,7 @@ returns-in_err-make_room-clause-answer g c =
           c.server_at.new.servers.items) c.args.server c.in_ok-i.i
           c.index_mut-voter.result.now c.make_room.new.self c.in_ok-i.ensures.at.0 c.index_mut-voter.ensures.value
           (keeps_at _ exact es c.args.server (kept_by c.args.self.now) c.server_at.new.servers.items c.in_ok-i.i c.in_ok-i.ensures.at keeps)
-          c.in_err-make_room.ensures.same_id c.in_err-make_room.ensures.same_term c.in_err-make_room.ensures.same_voted
-          c.in_err-make_room.ensures.same_log c.in_err-make_room.ensures.same_durable c.in_err-make_room.ensures.same_kept),
+          c.in_err-make_room.ensures.rest),
     ))
 
 pub returns-in_err-leader-clause-answer : goal.returns-in_err-leader-clause-answer
@@ -69,25 +68,19 @@ returns-in_err-leader-clause-answer g c =
           c.server_at.new.servers.items) c.args.server c.in_ok-i.i
           c.index_mut-voter.result.now c.make_room.new.self c.in_ok-i.ensures.at.0 c.index_mut-voter.ensures.value
           (keeps_at _ exact es c.args.server (kept_by c.args.self.now) c.server_at.new.servers.items c.in_ok-i.i c.in_ok-i.ensures.at keeps)
-          c.in_ok-make_room.ensures.same_id c.in_ok-make_room.ensures.same_term c.in_ok-make_room.ensures.same_voted
-          c.in_ok-make_room.ensures.same_log c.in_ok-make_room.ensures.same_durable c.in_ok-make_room.ensures.same_kept),
+          c.in_ok-make_room.ensures.rest),
     ))
 
 pub returns-clause-answer : goal.returns-clause-answer
 returns-clause-answer g c =
     λ exact es keeps. rw (c.push_front_reserved.ensures.items, c.in_ok-reserve.ensures.items)
     (campaign_done _ exact es c.args.term c.args.server (with_servers (kept_by c.args.self.now) c.server_at.new.servers.items) c.in_ok-i.i
-    c.index.result.now c.index_mut-voter.result.now c.reach.new.self c.in_ok-leader.leader c.config_content-config.result
+    c.len-len.result c.index.result.now c.index_mut-voter.result.now c.make_room.new.self c.reach.new.self c.in_ok-leader.leader c.config_content-config.result
     c.in_ok-i.ensures.at.0 c.index.ensures c.index_mut-voter.ensures.value
     (keeps_at _ exact es c.args.server (kept_by c.args.self.now) c.server_at.new.servers.items c.in_ok-i.i c.in_ok-i.ensures.at keeps)
-    (rw c.rank-rank.ensures at c.if-rank-index.false)
-    (c.reach.ensures.same_id ∙ c.in_ok-make_room.ensures.same_id)
-    (rw c.rank-rank.ensures at c.reach.ensures.term ∙ ap (λ x. max x (g.T.Term.rank c.args.term)) c.in_ok-make_room.ensures.same_term)
-    (rw c.rank-rank.ensures at c.reach.ensures.voted)
-    (c.reach.ensures.same_log ∙ c.in_ok-make_room.ensures.same_log) (c.reach.ensures.same_durable ∙ c.in_ok-make_room.ensures.same_durable)
-    (rw c.rank-rank.ensures at c.reach.ensures.kept
-    ∙ (λ q. kept_after (c.in_ok-make_room.ensures.same_kept q) (c.in_ok-make_room.ensures.same_term q)
-    (c.len-len.ensures.len q) (g.T.Term.rank c.args.term)))
+    (rw (c.rank-rank.ensures, c.term.ensures) at c.if-rank-term.false)
+    c.in_ok-make_room.ensures.rest c.len-len.ensures.len (rw c.rank-rank.ensures at c.reach.ensures.term)
+    (rw c.rank-rank.ensures at c.reach.ensures.kept) (rw c.rank-rank.ensures at c.reach.ensures.rest)
     c.in_ok-leader.ensures.elected
     (c.config_content-config.ensures (g.C.Configs.holds_config c.args.self.now.configs)
     (logs_by (g.C.Configs.holds_config c.args.self.now.configs) c.args.self.now.logs keeps.are_logs)
@@ -98,12 +91,12 @@ returns-clause-answer g c =
       term = c.in_ok-leader.ensures.term;
       id = c.in_ok-leader.ensures.id;
       start = c.in_ok-leader.ensures.start ∙ c.len-len.ensures.len;
-      log = ap (log_at c.args.self.now.logs) (c.in_ok-leader.ensures.log ∙ c.in_ok-make_room.ensures.same_log);
+      log = ap (log_at c.args.self.now.logs) (c.in_ok-leader.ensures.log ∙ ap (λ (s : Server g.row.N.Denot). s.log) c.in_ok-make_room.ensures.rest);
       voters = c.in_ok-leader.ensures.voters;
       elected = refl;
       committed = c.in_ok-leader.ensures.committed;
     })
-    (c.in_ok-leader.ensures.log ∙ c.in_ok-make_room.ensures.same_log))
+    (c.in_ok-leader.ensures.log ∙ ap (λ (s : Server g.row.N.Denot). s.log) c.in_ok-make_room.ensures.rest))
 
 pub index-requires : goal.index-requires
 index-requires g c = within_len _ _ _ c.server_at.new.servers.ok.0 c.in_ok-i.ensures.within

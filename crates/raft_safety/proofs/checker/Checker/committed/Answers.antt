@@ -2,7 +2,6 @@ use Rattle.std.proofs.Common.{◌∙◌, None, ap, arith, sym}
 use Rattle.raft_safety.specs.Configs.{effective_config}
 use Rattle.raft_safety.specs.Checker.{kept_by}
 use Rattle.raft_safety.specs.Inner.CheckerState.{config_in}
-use Rattle.raft_safety.specs.Inner.Logs.{log_at}
 use Rattle.raft_safety.proofs.lemmas.CheckerStepLemmas.{
   commit_done,
   commit_refused,
@@ -51,14 +50,5 @@ returns-clause-answer g c =
     c.index-3.ensures in
     omega (arith, own, c.first.ensures.earlier))
     ∙ ap (λ x. effective_config (config_in (g.C.Configs.holds_config c.args.self.now.configs)) None x) c.first.ensures.first)
-    (rw c.deref.ensures.value at c.is_quorum.ensures c.in_ok-servers.ensures.distinct) c.if-not-is_quorum.false c.commit.ensures.same_acked
-    (record {
-      term = c.commit.ensures.same_term;
-      id = c.commit.ensures.same_id;
-      start = c.commit.ensures.same_start;
-      log = ap (log_at c.args.self.now.logs) c.commit.ensures.same_log;
-      voters = c.commit.ensures.same_voters;
-      elected = c.commit.ensures.same_elected;
-      committed = c.commit.ensures.committed;
-    })
-    c.commit.ensures.same_log
+    (rw c.deref.ensures.value at c.is_quorum.ensures c.in_ok-servers.ensures.distinct) c.if-not-is_quorum.false
+    c.commit.ensures

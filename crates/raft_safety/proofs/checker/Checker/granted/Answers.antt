@@ -1,9 +1,11 @@
-use Rattle.std.proofs.Common.{◌∙◌, None, ap, arith, length, max, refl, sym}
+use Rattle.std.proofs.Common.{◌∙◌, None, ap, arith, length, sym}
 use Rattle.std.proofs.lemmas.Result.{err_from_is_err_and}
 use Rattle.raft_safety.specs.Configs.{effective_config}
 use Rattle.raft_safety.specs.Checker.{kept_by}
-use Rattle.raft_safety.specs.Inner.CheckerState.{config_in, kept_after}
+use Rattle.raft_safety.specs.Inner.CheckerState.{config_in}
 use Rattle.raft_safety.specs.Inner.Logs.{log_at}
+use Rattle.raft_safety.specs.declared.checker.leader.Leader.{Leader}
+use Rattle.raft_safety.specs.declared.checker.server.Server.{Server}
 use Rattle.raft_safety.proofs.lemmas.CheckerStepLemmas.{
   grant_done,
   grant_refused,
@@ -38,17 +40,16 @@ returns-in-Some-grant_rule-clause-answer g c =
     c.server_at.new.servers.items c.in_ok-i.i c.in_ok-i.ensures.at keeps)
     (rw c.rank-rank.ensures at (sym c.in-Some-grant_rule.ensures))
 
-pub returns-then-rank-voter-clause-answer : goal.returns-then-rank-voter-clause-answer
-returns-then-rank-voter-clause-answer g c =
+pub returns-then-rank-term-clause-answer : goal.returns-then-rank-term-clause-answer
+returns-then-rank-term-clause-answer g c =
     λ exact es keeps. late_vote_done _ exact es c.args.server c.args.term c.args.candidate
     (with_servers (kept_by c.args.self.now) c.server_at.new.servers.items) c.in_ok-i.i c.in-Some.j
     c.index.result.now c.index_mut-voter.result.now c.vote_late.new.self c.index-2.result.now
     c.in_ok-i.ensures.at.0 c.index.ensures c.index_mut-voter.ensures.value (sym c.in-Some.ensures.place) c.index-2.ensures
     (keeps_at _ exact es c.args.server (kept_by c.args.self.now) c.server_at.new.servers.items c.in_ok-i.i c.in_ok-i.ensures.at keeps)
     (rw c.rank-rank.ensures at (sym c.in-None-grant_rule.ensures))
-    (rw c.rank-rank.ensures at c.if-rank-voter.true)
-    c.vote_late.ensures.same_id c.vote_late.ensures.same_term (rw c.rank-rank.ensures at c.vote_late.ensures.voted)
-    c.vote_late.ensures.same_log c.vote_late.ensures.same_durable c.vote_late.ensures.same_kept
+    (rw (c.rank-rank.ensures, c.term.ensures) at c.if-rank-term.true)
+    (rw c.rank-rank.ensures at c.vote_late.ensures)
 
 pub returns-in_err-make_room-clause-answer : goal.returns-in_err-make_room-clause-answer
 returns-in_err-make_room-clause-answer g c =
@@ -58,8 +59,7 @@ returns-in_err-make_room-clause-answer g c =
       same_server _ exact es (with_servers (kept_by c.args.self.now) c.server_at.new.servers.items) c.args.server c.in_ok-i.i
           c.index_mut-voter.result.now c.make_room.new.self c.in_ok-i.ensures.at.0 c.index_mut-voter.ensures.value
           (keeps_at _ exact es c.args.server (kept_by c.args.self.now) c.server_at.new.servers.items c.in_ok-i.i c.in_ok-i.ensures.at keeps)
-          c.in_err-make_room.ensures.same_id c.in_err-make_room.ensures.same_term c.in_err-make_room.ensures.same_voted
-          c.in_err-make_room.ensures.same_log c.in_err-make_room.ensures.same_durable c.in_err-make_room.ensures.same_kept,
+          c.in_err-make_room.ensures.rest,
     ))
 
 pub returns-in_err-vote-clause-answer : goal.returns-in_err-vote-clause-answer
@@ -73,40 +73,36 @@ returns-in_err-vote-clause-answer g c =
           (same_server _ exact es (with_servers (kept_by c.args.self.now) c.server_at.new.servers.items) c.args.server c.in_ok-i.i
           c.index_mut-voter.result.now c.make_room.new.self c.in_ok-i.ensures.at.0 c.index_mut-voter.ensures.value
           (keeps_at _ exact es c.args.server (kept_by c.args.self.now) c.server_at.new.servers.items c.in_ok-i.i c.in_ok-i.ensures.at keeps)
-          c.in_ok-make_room.ensures.same_id c.in_ok-make_room.ensures.same_term c.in_ok-make_room.ensures.same_voted
-          c.in_ok-make_room.ensures.same_log c.in_ok-make_room.ensures.same_durable c.in_ok-make_room.ensures.same_kept)
-          c.in_err-vote.ensures.same_acked
+          c.in_ok-make_room.ensures.rest)
+          (ap (λ (l : Leader g.row.T.Denot g.row.N.Denot). l.acked.items) c.in_err-vote.ensures.rest)
           (record {
-            term = c.in_err-vote.ensures.same_term;
-            id = c.in_err-vote.ensures.same_id;
-            start = c.in_err-vote.ensures.same_start;
-            log = ap (log_at c.args.self.now.logs) c.in_err-vote.ensures.same_log;
+            term = ap (λ (l : Leader g.row.T.Denot g.row.N.Denot). l.term) c.in_err-vote.ensures.rest;
+            id = ap (λ (l : Leader g.row.T.Denot g.row.N.Denot). l.id) c.in_err-vote.ensures.rest;
+            start = ap (λ (l : Leader g.row.T.Denot g.row.N.Denot). l.start) c.in_err-vote.ensures.rest;
+            log = ap (λ (l : Leader g.row.T.Denot g.row.N.Denot). log_at c.args.self.now.logs l.log) c.in_err-vote.ensures.rest;
             voters = c.in_err-vote.ensures.err_voters;
             elected = c.in_err-vote.ensures.err_elected;
-            committed = c.in_err-vote.ensures.same_committed;
+            committed = ap (λ (l : Leader g.row.T.Denot g.row.N.Denot). l.committed) c.in_err-vote.ensures.rest;
           })
-          c.in_err-vote.ensures.same_log,
+          (ap (λ (l : Leader g.row.T.Denot g.row.N.Denot). l.log) c.in_err-vote.ensures.rest),
     ))
 
 pub returns-clause-answer : goal.returns-clause-answer
 returns-clause-answer g c =
     λ exact es keeps. grant_done _ exact es c.args.server c.args.term c.args.candidate
-    (with_servers (kept_by c.args.self.now) c.server_at.new.servers.items) c.in_ok-i.i c.in-Some.j
-    c.index.result.now c.index_mut-voter.result.now c.reach.new.self
+    (with_servers (kept_by c.args.self.now) c.server_at.new.servers.items) c.in_ok-i.i c.in-Some.j c.len.result
+    c.index.result.now c.index_mut-voter.result.now c.make_room.new.self c.reach.new.self
     c.index-2.result.now c.index_mut-leader.result.now c.vote.new.self c.config_content-config.result
     c.in_ok-i.ensures.at.0 c.index.ensures c.index_mut-voter.ensures.value (sym c.in-Some.ensures.place)
     c.index-2.ensures c.index_mut-leader.ensures.value
     (keeps_at _ exact es c.args.server (kept_by c.args.self.now) c.server_at.new.servers.items c.in_ok-i.i c.in_ok-i.ensures.at keeps)
     (rw c.rank-rank.ensures at (sym c.in-None-grant_rule.ensures))
-    (rw c.rank-rank.ensures at c.if-rank-voter.false)
-    (c.reach.ensures.same_id ∙ c.in_ok-make_room.ensures.same_id)
-    (rw c.rank-rank.ensures at c.reach.ensures.term ∙ ap (λ x. max x (g.T.Term.rank c.args.term)) c.in_ok-make_room.ensures.same_term)
-    (rw c.rank-rank.ensures at c.reach.ensures.voted)
-    (c.reach.ensures.same_log ∙ c.in_ok-make_room.ensures.same_log) (c.reach.ensures.same_durable ∙ c.in_ok-make_room.ensures.same_durable)
-    (rw c.rank-rank.ensures at c.reach.ensures.kept
-    ∙ (λ q. kept_after (c.in_ok-make_room.ensures.same_kept q) (c.in_ok-make_room.ensures.same_term q)
-    ((c.len.ensures.len ∙ ap (λ l. length (log_at c.args.self.now.logs l)) c.in_ok-make_room.ensures.same_log) q)
-    (g.T.Term.rank c.args.term)))
+    (rw (c.rank-rank.ensures, c.term.ensures) at c.if-rank-term.false)
+    c.in_ok-make_room.ensures.rest
+    (c.len.ensures.len
+    ∙ ap (λ (s : Server g.row.N.Denot). length (log_at c.args.self.now.logs s.log)) c.in_ok-make_room.ensures.rest)
+    (rw c.rank-rank.ensures at c.reach.ensures.term) (rw c.rank-rank.ensures at c.reach.ensures.kept)
+    (rw c.rank-rank.ensures at c.reach.ensures.rest)
     c.in_ok-vote.ensures.voters c.in_ok-vote.ensures.distinct c.in_ok-vote.ensures.elected
     (c.config_content-config.ensures (g.C.Configs.holds_config c.args.self.now.configs)
     (logs_by (g.C.Configs.holds_config c.args.self.now.configs) c.args.self.now.logs keeps.are_logs)
@@ -114,17 +110,7 @@ returns-clause-answer g c =
     (found_within _ _ _ (sym c.in-Some.ensures.place)) c.index_mut-leader.ensures.value in
     omega (arith, own, c.first.ensures.earlier))
     ∙ ap (λ x. effective_config (config_in (g.C.Configs.holds_config c.args.self.now.configs)) None x) c.first.ensures.first)
-    c.in_ok-vote.ensures.same_acked
-    (record {
-      term = c.in_ok-vote.ensures.same_term;
-      id = c.in_ok-vote.ensures.same_id;
-      start = c.in_ok-vote.ensures.same_start;
-      log = ap (log_at c.args.self.now.logs) c.in_ok-vote.ensures.same_log;
-      voters = refl;
-      elected = refl;
-      committed = c.in_ok-vote.ensures.same_committed;
-    })
-    c.in_ok-vote.ensures.same_log
+    c.in_ok-vote.ensures.rest
 
 pub index-requires : goal.index-requires
 index-requires g c = within_len _ _ _ c.server_at.new.servers.ok.0 c.in_ok-i.ensures.within

@@ -1,7 +1,6 @@
-use Rattle.std.proofs.Common.{◌∙◌, ap, sym}
+use Rattle.std.proofs.Common.{sym}
 use Rattle.std.proofs.lemmas.Result.{err_from_is_err_and}
 use Rattle.raft_safety.specs.Checker.{kept_by}
-use Rattle.raft_safety.specs.Inner.Logs.{log_at}
 use Rattle.raft_safety.proofs.lemmas.CheckerStepLemmas.{keeps_at, restart_done, restart_refused, with_servers}
 use Rattle.raft_safety.proofs.checker.Checker.restarted.Goals as goal
 
@@ -23,6 +22,5 @@ returns-clause-answer g c =
     c.in_ok-i.i c.args.len c.index.result.now c.index_mut-restarted.result.now c.restart.new.self
     c.in_ok-i.ensures.at.0 c.index.ensures c.index_mut-restarted.ensures.value
     (keeps_at _ exact es c.args.server (kept_by c.args.self.now) c.server_at.new.servers.items c.in_ok-i.i c.in_ok-i.ensures.at keeps)
-    (sym c.in-None.ensures) c.restart.ensures.same_id c.restart.ensures.same_term c.restart.ensures.same_voted
-    (ap (log_at c.args.self.now.logs) c.restart.ensures.log ∙ c.first.ensures.first)
-    (rw c.restart.ensures.log c.first.ensures.earlier) c.restart.ensures.durable c.restart.ensures.kept
+    (sym c.in-None.ensures) c.first.result c.first.ensures.first c.first.ensures.earlier
+    c.restart.ensures.term c.restart.ensures.kept c.restart.ensures.rest

@@ -39,10 +39,9 @@ returns-clause-answer g c =
     c.index-2.ensures c.index_mut.ensures.value keeps
     (sym (c.in-None-write_rule.ensures (logs_by (g.C.Configs.holds_config c.args.self.now.configs) c.args.self.now.logs keeps.are_logs)
     (keeps.have_logs.of_leaders c.in-Some.j c.index.result.now (found_within _ _ _ (sym c.in-Some.ensures.place)) c.index.ensures)))
-    (rw c.write.ensures.log (c.in_ok-log.ensures.child _ (exact_entries _ exact) keeps.are_logs
+    c.in_ok-log.log (c.in_ok-log.ensures.child _ (exact_entries _ exact) keeps.are_logs
     (keeps.have_logs.of_leaders c.in-Some.j c.index-2.result.now (found_within _ _ _ (sym c.in-Some.ensures.place)) c.index-2.ensures)
     (c.holds_config-is_config.ensures
     ∙ ap (λ (e : Entry g.row.T.Denot g.row.D.Denot). g.C.Configs.holds_config c.args.self.now.configs e.content) c.entry.view_is
-    ∙ sym (some_config (g.C.Configs.holds_config c.args.self.now.configs) c.args.entry.content))))
-    c.write.ensures.same_acked c.write.ensures.same_term c.write.ensures.same_id c.write.ensures.same_start
-    c.write.ensures.same_voters c.write.ensures.same_elected c.write.ensures.same_committed
+    ∙ sym (some_config (g.C.Configs.holds_config c.args.self.now.configs) c.args.entry.content)))
+    c.write.ensures

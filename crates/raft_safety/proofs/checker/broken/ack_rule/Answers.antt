@@ -9,15 +9,15 @@ use Rattle.raft_safety.proofs.checker.broken.ack_rule.Goals as goal
 pub returns-then-not-leader : goal.returns-then-not-leader
 returns-then-not-leader g c = λ exact distinct. rw c.if-not-leader.true refl
 
-pub returns-then-server-rank : goal.returns-then-server-rank
-returns-then-server-rank g c =
-    λ exact distinct. rw (c.if-not-leader.false, lt-leb c.args.rank c.args.server.now.term c.if-server-rank.true) refl
+pub returns-then-term-rank : goal.returns-then-term-rank
+returns-then-term-rank g c =
+    λ exact distinct. rw (c.if-not-leader.false, lt-leb c.args.rank c.args.server.now.terms.term (rw c.term.ensures at c.if-term-rank.true)) refl
 
 pub returns-then-len : goal.returns-then-len
 returns-then-len g c =
     λ exact distinct. rw (
       c.if-not-leader.false,
-      le-leb c.args.rank c.args.server.now.term c.if-server-rank.false,
+      le-leb c.args.rank c.args.server.now.terms.term (rw c.term.ensures at c.if-term-rank.false),
       lt-leb c.args.len (length (log_at c.args.logs.now c.args.leader.now.log)) (omega (arith, c.len.ensures.len)),
     ) refl
 
@@ -26,7 +26,7 @@ returns-then-not-begins_with g c =
     λ exact distinct. let begins = rw c.first.ensures.first at (c.begins_with.ensures exact distinct) in
     rw (
       c.if-not-leader.false,
-      le-leb c.args.rank c.args.server.now.term c.if-server-rank.false,
+      le-leb c.args.rank c.args.server.now.terms.term (rw c.term.ensures at c.if-term-rank.false),
       le-leb c.args.len (length (log_at c.args.logs.now c.args.leader.now.log)) (omega (arith, c.len.ensures.len)),
       ← begins,
       c.if-not-begins_with.true,
@@ -37,12 +37,12 @@ returns-then-kept_since-len g c =
     λ exact distinct. let begins = rw c.first.ensures.first at (c.begins_with.ensures exact distinct) in
     rw (
       c.if-not-leader.false,
-      le-leb c.args.rank c.args.server.now.term c.if-server-rank.false,
+      le-leb c.args.rank c.args.server.now.terms.term (rw c.term.ensures at c.if-term-rank.false),
       le-leb c.args.len (length (log_at c.args.logs.now c.args.leader.now.log)) (omega (arith, c.len.ensures.len)),
       ← begins,
       c.if-not-begins_with.false,
       length-take-le c.args.len (log_at c.args.logs.now c.args.leader.now.log) (omega (arith, c.len.ensures.len)),
-      too_few (nat_le c.args.server.now.term c.args.rank) c.args.len (kept_from 0 c.args.server.now.kept.items c.args.rank)
+      too_few (nat_le c.args.server.now.terms.term c.args.rank) c.args.len (kept_from 0 c.args.server.now.terms.kept c.args.rank)
           c.kept_since.result c.kept_since.ensures c.if-kept_since-len.true,
     ) refl
 
@@ -51,11 +51,11 @@ returns g c =
     λ exact distinct. let begins = rw c.first.ensures.first at (c.begins_with.ensures exact distinct) in
     rw (
       c.if-not-leader.false,
-      le-leb c.args.rank c.args.server.now.term c.if-server-rank.false,
+      le-leb c.args.rank c.args.server.now.terms.term (rw c.term.ensures at c.if-term-rank.false),
       le-leb c.args.len (length (log_at c.args.logs.now c.args.leader.now.log)) (omega (arith, c.len.ensures.len)),
       ← begins,
       c.if-not-begins_with.false,
       length-take-le c.args.len (log_at c.args.logs.now c.args.leader.now.log) (omega (arith, c.len.ensures.len)),
-      enough (nat_le c.args.server.now.term c.args.rank) c.args.len (kept_from 0 c.args.server.now.kept.items c.args.rank)
+      enough (nat_le c.args.server.now.terms.term c.args.rank) c.args.len (kept_from 0 c.args.server.now.terms.kept c.args.rank)
           c.kept_since.result c.kept_since.ensures c.if-kept_since-len.false,
     ) refl

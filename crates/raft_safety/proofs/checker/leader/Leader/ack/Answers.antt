@@ -28,13 +28,7 @@ returns-in_err-push-in-None g c =
     rw p.1 (record {
       acked = tt;
       err_acked = c.in_err-push-in-None.ensures.items;
-      same_term = refl;
-      same_id = refl;
-      same_start = refl;
-      same_log = refl;
-      same_voters = refl;
-      same_elected = refl;
-      same_committed = refl;
+      rest = refl;
     })
 
 pub index_mut-requires : goal.index_mut-requires

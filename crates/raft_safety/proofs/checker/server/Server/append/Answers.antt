@@ -4,15 +4,4 @@ use Rattle.raft_safety.proofs.checker.server.Server.append.Goals as goal
 pub returns-in_err-make_room : goal.returns-in_err-make_room
 returns-in_err-make_room g c =
     let p = err_from_is_err_and c.from_residual.result c.from_residual.ensures.1 in
-    rw p.1 (record {
-      term = tt;
-      log = tt;
-      durable = tt;
-      kept = tt;
-      same_id = c.in_err-make_room.ensures.same_id;
-      same_voted = c.in_err-make_room.ensures.same_voted;
-      err_term = c.in_err-make_room.ensures.same_term;
-      err_log = c.in_err-make_room.ensures.same_log;
-      err_durable = c.in_err-make_room.ensures.same_durable;
-      err_kept = c.in_err-make_room.ensures.same_kept;
-    })
+    rw p.1 (record { term = tt; kept = tt; rest = tt; err = c.in_err-make_room.ensures.rest })
