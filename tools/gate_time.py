@@ -31,6 +31,7 @@ BUDGETS = {
     "raft_state": 2220,
     "raft_handlers": 1220,
     "raft_safety": 260,
+    "raft_refinement": 300,
     "raft_script": 380,
     "cluster": 460,
     "raft_testing": 110,

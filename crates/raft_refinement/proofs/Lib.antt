@@ -1,0 +1,13 @@
+pub mod Calls
+pub mod Stepping
+pub mod Views
+pub mod PlaceLemmas
+pub mod VotingLemmas
+pub mod AppendingLemmas
+pub mod ElectingLemmas
+pub mod SteppingLemmas
+pub mod RunningLemmas
+pub mod LawLemmas
+pub mod SeenLemmas
+pub mod ViewLemmas
+pub mod WrapperLemmas

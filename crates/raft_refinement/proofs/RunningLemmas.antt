@@ -1,0 +1,1171 @@
+-- Runs of servers are safe.
+use Rattle.std.specs.Prelude.{
+  ◌≡◌,
+  ◌⊎◌,
+  ◌<◌,
+  ◌≤◌,
+  ◌-◌,
+  ◌&&◌,
+  ℕ,
+  zero,
+  suc,
+  Bool,
+  true,
+  false,
+  if◌then◌else◌,
+  List,
+  [],
+  ◌∷◌,
+  ◌++◌,
+  length,
+  take,
+  slice_get,
+  Option,
+  Some,
+  None,
+  ◌==◌,
+}
+use Rattle.std.proofs.Common.{refl, sym, ap, subst, ◌∙◌, inl, inr, arith, true≢false}
+use Rattle.std.proofs.lemmas.Bool.{and_parts}
+use Rattle.std.proofs.lemmas.List.{length-append}
+use Rattle.raft_base.specs.declared.log_id.LogIdOf.{LogIdOf}
+use Rattle.raft_base.specs.declared.vote.VoteIn.{VoteIn}
+use Rattle.raft_base.specs.LogId.{next_index}
+use Rattle.raft_safety.specs.Log.{Entry, IsPrefix}
+use Rattle.raft_safety.specs.Events.{Ack, Append, Event, GrantVote, History, log_after, term_after}
+use Rattle.raft_safety.specs.Facts.{HasAcked, HasVoted, IsCommitted, IsElected}
+use Rattle.raft_safety.specs.Rules.{FollowsRaft, MayAck, MayAppend, MayGrantVote}
+use Rattle.raft_safety.specs.Apply.{IsKnownCommitted}
+use Rattle.raft_safety.specs.Configs.{effective_config, is_quorum}
+use Rattle.raft_safety.specs.Execution.{FactsAreStable, LeaderAppends, Next, ServerStep, StartsCampaign}
+use Rattle.raft_safety.specs.Ranks.{IsAmong}
+use Rattle.raft_state.specs.log_id_list.LogReads.{id_at, last_id}
+use Rattle.raft_refinement.specs.Server.{IsIdAt, IsInLog, IsLastId, IsServer, KnowsCommitted, State}
+use Rattle.raft_refinement.specs.Voting.{IsAsked}
+use Rattle.raft_refinement.specs.Appending.{AllInLog, InLogIfAny, IsSent, IsSnapshotSent}
+use Rattle.raft_refinement.specs.Electing.{KnowsMatches}
+use Rattle.raft_refinement.proofs.Stepping.{SeenCluster, GoesOn, IsSeenCluster, IsMatched, IsPast, IsVoted, StepLeaves, at_server}
+use Rattle.raft_refinement.proofs.Views.{
+  SeenAgree,
+  Commits,
+  SeenDoes,
+  HandlesConflict,
+  HandlesMatch,
+  HandlesVote,
+  IsSeenFirst,
+  IsMadeLeader,
+  IsSeenRun,
+  Leads,
+  SeenMessage,
+  SeesCampaign,
+  SeesCommit,
+  SeesConflict,
+  SeesElection,
+  SeesMatch,
+  SeesPurge,
+  SeesRestart,
+  SeesSendSnapshot,
+  SeesSnapshot,
+  HandlesSnapshot,
+  SendsSnapshot,
+  SeenSnapshot,
+  SeesSend,
+  SeesVote,
+  SeesWrite,
+  Campaigns,
+  Purges,
+  Restarts,
+  SeenRunsAreSafe,
+  Sends,
+  SeenAsked,
+  SeenVoted,
+  SeenSent,
+  SeenMatched,
+  SeenWorld,
+  Writes,
+  uncommitted,
+  Idles,
+  SeesIdle,
+}
+use Rattle.raft_safety.proofs.lemmas.PrefixLemmas.{append-nil, prefix_itself, prefix_length, prefix_take, prefix_trans, take_within}
+use Rattle.raft_safety.proofs.lemmas.ServerLemmas.{voted_term}
+use Rattle.raft_safety.proofs.lemmas.ApplyLemmas.{applied}
+use Rattle.raft_safety.proofs.lemmas.ExecutionLemmas.{all_times_agree, execution_keeps_facts, step_keeps_facts}
+use Rattle.raft_refinement.proofs.AppendingLemmas.{at_within, get_within, index_found, prefix_get, take_get}
+use Rattle.raft_refinement.proofs.ElectingLemmas.{acked_less, commits_by_rule, own_past}
+use Rattle.raft_refinement.proofs.SteppingLemmas.{
+  Q,
+  appends_are_steps,
+  follows,
+  grows_in,
+  installs_are_steps,
+  moves,
+  nothing_done,
+  one_event,
+  own_events,
+  safe,
+  steps_stay,
+  votes_are_steps,
+  with_event,
+}
+
+module _ {L C K D M : Type 0} (c : SeenCluster L C K D M) where
+  -- a vote for the server itself: the leader's log is the log of the server, with which it campaigns, and
+  -- once it is committed, it is elected, and has acknowledged what it has written
+  record IsOwn (h : History C K D) (s : K) (x : State L C) : Type 0 where
+    log : h.leader_log (c.kind.committed x.vote.leader_id) s ≡ log_after (h.events s)
+    asked : x.vote.committed ≡ false → h.candidate_log (c.kind.committed x.vote.leader_id) s ≡ log_after (h.events s)
+    is_elected : x.vote.committed ≡ true
+        → IsElected c.rank (is_quorum c.rank c.config_of c.initial c.quorum_of) h (c.kind.committed x.vote.leader_id) s
+    acked : x.vote.committed ≡ true
+        → length (h.candidate_log (c.kind.committed x.vote.leader_id) s) < length (h.leader_log (c.kind.committed x.vote.leader_id) s)
+        → HasAcked (c.kind.committed x.vote.leader_id) s (length (h.leader_log (c.kind.committed x.vote.leader_id) s)) (h.events s)
+
+  abbrev OwnVote : History C K D → K → State L C → Type 0
+  OwnVote h s x = c.kind.voted x.vote.leader_id ≡ Some s → 0 < c.kind.term_of x.vote.leader_id → IsOwn h s x
+
+  -- a message is true
+  abbrev IsHonest : History C K D → SeenMessage L C K → Type 0
+  IsHonest h (SeenAsked vote last) =
+      (r : K) → (c.kind.voted vote.leader_id ≡ Some r → ⊥) → IsAsked c.kind (at_server c h r) vote last
+  IsHonest h (SeenVoted r vote) = IsVoted c h r vote
+  IsHonest h (SeenSent leader prev ids committed) = (r : K) → IsSent c.kind (at_server c h r) leader prev ids committed
+  IsHonest h (SeenMatched r leader upto) = IsMatched c h r leader upto
+  IsHonest h (SeenSnapshot leader upto) = (r : K) → IsSnapshotSent c.kind (at_server c h r) leader upto
+
+  -- what every step keeps
+  record Inv (w : SeenWorld L C K) : Type 0 where
+    h : History C K D
+    earlier : List (History C K D)
+    past : IsPast c h earlier
+    server : (s : K) → IsServer c.kind (at_server c h s) (w.servers s) (h.events s)
+    own : (s : K) → OwnVote h s (w.servers s)
+    honest : (m : SeenMessage L C K) → IsAmong m w.network → IsHonest h m
+
+-- and all earlier histories stay earlier ones
+record Carried {L C K D M : Type 0} (c : SeenCluster L C K D M) (w v : SeenWorld L C K) (inv : Inv c w) : Type 0 where
+  now : Inv c v
+  kept : (g : History C K D) → IsAmong g (inv.h ∷ inv.earlier) → IsAmong g (now.h ∷ now.earlier)
+
+module _ {L C K D M : Type 0} (c : SeenCluster L C K D M) (is_cluster : IsSeenCluster c) (w v : SeenWorld L C K) (inv : Inv c w) (s : K)
+    (others : (r : K) → c.same_node s r ≡ false → v.servers r ≡ w.servers r) where
+  still_honest : (after : History C K D) → GoesOn c s inv.h inv.earlier after → (m : SeenMessage L C K) → IsHonest c inv.h m
+      → IsHonest c after m
+  still_honest after goes m is = by m is
+    where
+      left : StepLeaves c s inv.h after
+      left = steps_stay c is_cluster inv.h after inv.earlier s inv.past goes
+
+      by : (m : SeenMessage L C K) → IsHonest c inv.h m → IsHonest c after m
+      by (SeenAsked vote last) is = λ r other. left.asked r vote last (is r other)
+      by (SeenVoted r vote) is = left.voted r vote is
+      by (SeenSent leader prev ids committed) is = λ r. left.sent r leader prev ids committed (is r)
+      by (SeenMatched r leader upto) is = left.matched r leader upto is
+      by (SeenSnapshot leader upto) is = λ r. left.snapshot_sent r leader upto (is r)
+
+  -- what is to be shown of a step: of its server, and of what it sends
+  carry : (after : History C K D) → GoesOn c s inv.h inv.earlier after
+      → IsServer c.kind (at_server c after s) (v.servers s) (after.events s)
+      → OwnVote c after s (v.servers s)
+      → ((m : SeenMessage L C K) → IsAmong m v.network → IsAmong m w.network ⊎ IsHonest c after m) → Carried c w v inv
+  carry after goes is own sent = record {
+    now = record {
+      h = after;
+      earlier = goes.earlier;
+      past = goes.past;
+      server = λ r. server r (c.same_node s r) refl;
+      own = λ r. owns r (c.same_node s r) refl;
+      honest = λ m among. honest m (sent m among);
+    };
+    kept = goes.kept;
+  }
+    where
+      left : StepLeaves c s inv.h after
+      left = steps_stay c is_cluster inv.h after inv.earlier s inv.past goes
+
+      server : (r : K) (b : Bool) → c.same_node s r ≡ b → IsServer c.kind (at_server c after r) (v.servers r) (after.events r)
+      server r true e =
+          subst (λ (x : K). IsServer c.kind (at_server c after x) (v.servers x) (after.events x)) (is_cluster.nodes s r e) is
+      server r false e =
+          subst (λ (x : State L C). IsServer c.kind (at_server c after r) x (after.events r)) (sym (others r e))
+          (left.servers r (w.servers r) e (inv.server r))
+
+      apart : (r : K) → c.same_node s r ≡ false → OwnVote c after r (w.servers r)
+      apart r e is_own term =
+          let o = inv.own r is_own term in
+          let t = c.kind.committed (w.servers r).vote.leader_id in
+          let logs = goes.logs t r e in
+          let same = goes.others r e in
+          record {
+            log = logs.1 ∙ o.log ∙ ap log_after (sym same);
+            asked = λ u. logs.0 ∙ o.asked u ∙ ap log_after (sym same);
+            is_elected = λ u. (goes.stable.elected t r (o.is_elected u)).0;
+            acked = λ u lt.
+                rw (logs.1, same) (o.acked u (omega (arith, lt, ap length logs.0, ap length logs.1)));
+          }
+
+      owns : (r : K) (b : Bool) → c.same_node s r ≡ b → OwnVote c after r (v.servers r)
+      owns r true e = subst (λ (x : K). OwnVote c after x (v.servers x)) (is_cluster.nodes s r e) own
+      owns r false e = subst (λ (x : State L C). OwnVote c after r x) (sym (others r e)) (apart r e)
+
+      honest : (m : SeenMessage L C K) → (IsAmong m w.network ⊎ IsHonest c after m) → IsHonest c after m
+      honest m (inl old) = still_honest after goes m (inv.honest m old)
+      honest m (inr new) = new
+
+  here : GoesOn c s inv.h inv.earlier inv.h
+  here = nothing_done c is_cluster inv.h inv.earlier inv.past s
+
+  same_sent : v.network ≡ w.network → (after : History C K D) → (m : SeenMessage L C K) → IsAmong m v.network
+      → IsAmong m w.network ⊎ IsHonest c after m
+  same_sent e after m among = inl (subst (λ (n : List (SeenMessage L C K)). IsAmong m n) e among)
+
+  one_sent : (after : History C K D) (x : SeenMessage L C K) → v.network ≡ x ∷ w.network → IsHonest c after x → (m : SeenMessage L C K)
+      → IsAmong m v.network → IsAmong m w.network ⊎ IsHonest c after m
+  one_sent after x e is m among = by (subst (λ (n : List (SeenMessage L C K)). IsAmong m n) e among)
+    where
+      by : IsAmong m (x ∷ w.network) → IsAmong m w.network ⊎ IsHonest c after m
+      by (inl same) = inr (subst (λ (y : SeenMessage L C K). IsHonest c after y) (sym same) is)
+      by (inr old) = inl old
+
+  not_own : (leader : L) (after : History C K D) → (c.kind.voted leader ≡ Some s → ⊥) → (v.servers s).vote.leader_id ≡ leader
+      → OwnVote c after s (v.servers s)
+  not_own leader after other e is_own term = absurd (other (ap c.kind.voted (sym e) ∙ is_own))
+
+  -- ---- calls of the handlers of requests
+
+  handles_match : HandlesMatch c s w v → Carried c w v inv
+  handles_match d =
+      let r = (appends_are_steps c is_cluster inv.h inv.earlier inv.past s d.leader d.prev d.ids d.committed (w.servers s) (v.servers s)
+      (inv.server s) d.whole d.whole_after (inv.honest (SeenSent d.leader d.prev d.ids d.committed) d.message s)).0 d.upto
+      (d.call inv.h) in
+      carry r.0.after r.0.goes_on r.0.server
+      (not_own d.leader r.0.after d.other (ap (λ (x : VoteIn L). x.leader_id) (d.call inv.h).vote))
+      (one_sent r.0.after (SeenMatched s d.leader d.upto) d.sends r.1)
+
+  handles_conflict : HandlesConflict c s w v → Carried c w v inv
+  handles_conflict d =
+      let r = (appends_are_steps c is_cluster inv.h inv.earlier inv.past s d.leader d.prev d.ids d.committed (w.servers s) (v.servers s)
+      (inv.server s) d.whole d.whole_after (inv.honest (SeenSent d.leader d.prev d.ids d.committed) d.message s)).1 d.at
+      (d.call inv.h) in
+      carry r.after r.goes_on r.server (not_own d.leader r.after d.other (ap (λ (x : VoteIn L). x.leader_id) (d.call inv.h).vote))
+      (same_sent d.sends r.after)
+
+  handles_snapshot : HandlesSnapshot c s w v → Carried c w v inv
+  handles_snapshot d =
+      let r = installs_are_steps c is_cluster inv.h inv.earlier inv.past s d.leader d.upto (w.servers s) (v.servers s)
+      (inv.server s) d.whole (inv.honest (SeenSnapshot d.leader d.upto) d.message s) (d.call inv.h) in
+      carry r.0.after r.0.goes_on r.0.server
+      (not_own d.leader r.0.after d.other (ap (λ (x : VoteIn L). x.leader_id) (d.call inv.h).vote))
+      (one_sent r.0.after (SeenMatched s d.leader (Some d.upto)) d.sends r.1)
+
+  handles_vote : HandlesVote c s w v → Carried c w v inv
+  handles_vote d = by d.granted refl
+    where
+      by : (b : Bool) → d.granted ≡ b → Carried c w v inv
+      by true e =
+          let r = votes_are_steps c is_cluster inv.h inv.earlier inv.past s d.vote d.last (w.servers s) (v.servers s) d.granted
+          (inv.server s) (inv.honest (SeenAsked d.vote d.last) d.message s d.other) (d.call inv.h) in
+          carry r.0.after r.0.goes_on r.0.server
+          (not_own d.vote.leader_id r.0.after d.other (ap (λ (x : State L C). x.vote.leader_id) ((d.call inv.h).taken e)))
+          (one_sent r.0.after (SeenVoted s d.vote) (rw e at d.sends) (r.1 e))
+      by false e =
+          let same : v.servers s ≡ w.servers s = (d.call inv.h).refused e in
+          carry inv.h here (subst (λ (x : State L C). IsServer c.kind (at_server c inv.h s) x (inv.h.events s)) (sym same) (inv.server s))
+          (subst (λ (x : State L C). OwnVote c inv.h s x) (sym same) (inv.own s)) (same_sent (rw e at d.sends) inv.h)
+
+  module _ (fixed : (d : D) → c.config_of d ≡ None)
+      (not_first : (l : L) → IsAmong l c.leaders → 0 < c.kind.term_of l → c.kind.committed l ≡ c.first → ⊥) where
+    lawful : FollowsRaft c.rank (Q c is_cluster) inv.h
+    lawful = follows c is_cluster inv.h inv.earlier inv.past
+
+    -- the config is the initial one
+    one_config : (log : List (Entry C D)) → effective_config c.config_of c.initial log ≡ c.initial
+    one_config [] = refl
+    one_config (e ∷ es) = rw (fixed e.content) (one_config es)
+
+    -- ---- an election
+
+    made_leader : IsMadeLeader c s w v → Carried c w v inv
+    made_leader d =
+        let is = inv.server s in
+        let o = inv.own s d.is_own d.term in
+        carry inv.h here
+        (subst (λ (x : State L C). IsServer c.kind (at_server c inv.h s) x (inv.h.events s)) (sym d.call)
+        (record {
+          in_use = is.in_use;
+          reached = is.reached;
+          voted_for = λ e none real for. absurd (true≢false none);
+          log = record { last = is.log.last; each = is.log.each };
+          purged = is.purged;
+          committed = is.committed;
+        }))
+        (subst (λ (x : State L C). OwnVote c inv.h s x) (sym d.call)
+        (λ is_own term. record {
+          log = o.log;
+          asked = λ none. absurd (true≢false none);
+          is_elected = λ yes. el;
+          acked = λ yes lt. absurd (omega (arith, lt, ap length o.log, ap length (o.asked d.not_yet)));
+        }))
+        (same_sent d.sends inv.h)
+      where
+        t : C
+        t = c.kind.committed (w.servers s).vote.leader_id
+
+        own_vote : HasVoted t s (inv.h.events s)
+        own_vote = (inv.server s).voted_for s d.not_yet d.term d.is_own
+
+        one_node : (a b : K) → Some a ≡ Some b → a ≡ b
+        one_node a b e = cc
+
+        voted : (r : K) → (r ≡ s) ⊎ IsAmong (SeenVoted r (w.servers s).vote) w.network → HasVoted t s (inv.h.events r)
+        voted r (inl same) = subst (λ (x : K). HasVoted t s (inv.h.events x)) (sym same) own_vote
+        voted r (inr among) =
+            let g = inv.honest (SeenVoted r (w.servers s).vote) among in
+            subst (λ (x : K). HasVoted t x (inv.h.events r)) (one_node g.candidate s (sym g.is_for ∙ d.is_own)) g.voted
+
+        el : IsElected c.rank (Q c is_cluster) inv.h t s
+        el = record {
+          voters = d.counts;
+          is_quorum = rw (one_config (inv.h.candidate_log t s)) d.majority;
+          have_voted = λ r yes. voted r (d.votes r yes);
+          for_itself = own_vote;
+        }
+
+    -- ---- a leader sends and commits
+
+    module _ (leads : Leads c s w v) where
+      led : C
+      led = c.kind.committed (w.servers s).vote.leader_id
+
+      lead_log : List (Entry C D)
+      lead_log = inv.h.leader_log (c.kind.committed (w.servers s).vote.leader_id) s
+
+      is_own : IsOwn c inv.h s (w.servers s)
+      is_own = inv.own s leads.is_own leads.term
+
+      in_lead : (x : LogIdOf C) → id_at (w.servers s).ids x.index ≡ Some x
+          → IsInLog c.first c.terms (inv.h.leader_log (c.kind.committed (w.servers s).vote.leader_id) s) x
+      in_lead x at = rw is_own.log ((inv.server s).log.each x.index x at)
+
+      -- what the server knows to be committed, the leader knows to be so
+      own_known : (n : ℕ) → KnowsCommitted c.rank (Q c is_cluster) inv.h (inv.h.events s) n
+          → IsKnownCommitted c.rank (Q c is_cluster) inv.h (c.kind.committed (w.servers s).vote.leader_id) s n
+      own_known n knows =
+          let may = knows.may in
+          let low = knows.reached in
+          let same = applied c.rank (Q c is_cluster) inv.h lawful (safe c is_cluster inv.h inv.earlier inv.past) (inv.h.events s) n may in
+          record {
+            in_term = may.known.in_term;
+            by_leader = may.known.by_leader;
+            committed_to = may.known.committed_to;
+            counted_at = may.known.counted_at;
+            committed = may.known.committed;
+            not_later = omega (arith, may.known.not_later, low, (inv.server s).reached);
+            is = rw (ap (λ (l : List (Entry C D)). take n l) is_own.log ∙ same) may.known.is;
+          }
+
+    sends : Sends c s w v → Carried c w v inv
+    sends d =
+        carry inv.h here (subst (λ (x : State L C). IsServer c.kind (at_server c inv.h s) x (inv.h.events s)) (sym d.call) (inv.server s))
+        (subst (λ (x : State L C). OwnVote c inv.h s x) (sym d.call) (inv.own s))
+        (one_sent inv.h (SeenSent (w.servers s).vote.leader_id d.prev d.ids (w.servers s).committed) d.sends
+        (λ r. record {
+          by_node = s;
+          is_for = d.leads.is_own;
+          in_use = (inv.server s).in_use;
+          elected_in = (is_own d.leads).is_elected d.leads.is_committed;
+          prev_in = any r d.prev d.has_prev;
+          all_in = all r d.ids d.has_ids;
+          committed_in = any r (w.servers s).committed d.has_committed;
+          is_committed = λ i at. own_known d.leads (suc i) ((inv.server s).committed i at);
+        }))
+      where
+        any : (r : K) (o : Option (LogIdOf C)) → ((x : LogIdOf C) → o ≡ Some x → id_at (w.servers s).ids x.index ≡ Some x)
+            → InLogIfAny c.kind (at_server c inv.h r) (inv.h.leader_log (c.kind.committed (w.servers s).vote.leader_id) s) o
+        any r None has = tt
+        any r (Some x) has = in_lead d.leads x (has x refl)
+
+        all : (r : K) (ids : List (LogIdOf C)) → ((x : LogIdOf C) → IsAmong x ids → id_at (w.servers s).ids x.index ≡ Some x)
+            → AllInLog c.kind (at_server c inv.h r) (inv.h.leader_log (c.kind.committed (w.servers s).vote.leader_id) s) ids
+        all r [] has = tt
+        all r (x ∷ xs) has = (in_lead d.leads x (has x (inl refl)), all r xs (λ y among. has y (inr among)))
+
+    commits : Commits c s w v → Carried c w v inv
+    commits d =
+        let is = inv.server s in
+        carry inv.h here
+        (subst (λ (x : State L C). IsServer c.kind (at_server c inv.h s) x (inv.h.events s)) (sym d.call)
+        (record {
+          in_use = is.in_use;
+          reached = is.reached;
+          voted_for = is.voted_for;
+          log = record { last = is.log.last; each = is.log.each };
+          purged = is.purged;
+          committed = λ i at.
+              let e : d.granted.index ≡ suc i = omega (arith, at) in
+              subst (λ (n : ℕ). KnowsCommitted c.rank (Q c is_cluster) inv.h (inv.h.events s) n) e may;
+        }))
+        (subst (λ (x : State L C). OwnVote c inv.h s x) (sym d.call) (λ own term. (let o = inv.own s own term in record {
+          log = o.log;
+          asked = o.asked;
+          is_elected = o.is_elected;
+          acked = o.acked;
+        })))
+        (same_sent d.sends inv.h)
+      where
+        t : C
+        t = c.kind.committed (w.servers s).vote.leader_id
+
+        o : IsOwn c inv.h s (w.servers s)
+        o = is_own d.leads
+
+        el : IsElected c.rank (Q c is_cluster) inv.h t s
+        el = o.is_elected d.leads.is_committed
+
+        apart : c.kind.committed (w.servers s).vote.leader_id ≡ c.first → ⊥
+        apart = not_first (w.servers s).vote.leader_id (inv.server s).in_use d.leads.term
+
+        there : IsInLog c.first c.terms (inv.h.leader_log (c.kind.committed (w.servers s).vote.leader_id) s) d.granted
+        there = in_lead d.leads d.granted d.logged
+
+        fits : d.granted.index ≤ length (inv.h.leader_log t s)
+        fits = at_within c.first (inv.h.leader_log t s) d.granted.index d.granted there.at
+
+        past_start : length (inv.h.candidate_log t s) < d.granted.index
+        past_start = own_past c.kind (at_server c inv.h s) lawful (w.servers s).vote.leader_id s el apart d.granted d.own there
+
+        all_acked : HasAcked t s (length (inv.h.leader_log t s)) (inv.h.events s)
+        all_acked = o.acked d.leads.is_committed (omega (arith, past_start, fits))
+
+        one_node : (a b : K) → Some a ≡ Some b → a ≡ b
+        one_node a b e = cc
+
+        knows : KnowsMatches c.kind (at_server c inv.h s) (w.servers s).vote.leader_id s d.matching
+        knows = record {
+          in_use = (inv.server s).in_use;
+          not_first = apart;
+          elected = el;
+          in_log = λ r m e. in_log r m (d.true_matches r m e);
+          acked = λ r m e. acked r m (d.true_matches r m e);
+        }
+          where
+            in_log : (r : K) (m : LogIdOf C) → ((r ≡ s) × (id_at (w.servers s).ids m.index ≡ Some m))
+                ⊎ IsAmong (SeenMatched r (w.servers s).vote.leader_id (Some m)) w.network
+                → IsInLog c.first c.terms (inv.h.leader_log (c.kind.committed (w.servers s).vote.leader_id) s) m
+            in_log r m (inl mine) = in_lead d.leads m mine.1
+            in_log r m (inr among) =
+                let g = inv.honest (SeenMatched r (w.servers s).vote.leader_id (Some m)) among in
+                subst (λ (x : K). IsInLog c.first c.terms (inv.h.leader_log (c.kind.committed (w.servers s).vote.leader_id) x) m)
+                (one_node g.to_node s (sym g.is_for ∙ d.leads.is_own)) g.there
+
+            acked : (r : K) (m : LogIdOf C) → ((r ≡ s) × (id_at (w.servers s).ids m.index ≡ Some m))
+                ⊎ IsAmong (SeenMatched r (w.servers s).vote.leader_id (Some m)) w.network
+                → HasAcked (c.kind.committed (w.servers s).vote.leader_id) s m.index (inv.h.events r)
+            acked r m (inl mine) =
+                let le = at_within c.first (inv.h.leader_log t s) m.index m (in_lead d.leads m mine.1).at in
+                subst (λ (x : K). HasAcked t s m.index (inv.h.events x)) (sym mine.0)
+                (acked_less t s m.index (length (inv.h.leader_log t s)) (inv.h.events s) le all_acked)
+            acked r m (inr among) =
+                let g = inv.honest (SeenMatched r (w.servers s).vote.leader_id (Some m)) among in
+                subst (λ (x : K). HasAcked t x m.index (inv.h.events r)) (one_node g.to_node s (sym g.is_for ∙ d.leads.is_own))
+                (g.acked m.index (omega arith))
+
+        done : IsCommitted c.rank (Q c is_cluster) inv.h t s d.granted.index (length (inv.h.leader_log t s))
+        done =
+            commits_by_rule c.kind (at_server c inv.h s) is_cluster.ranked lawful (safe c is_cluster inv.h inv.earlier inv.past)
+            (w.servers s).vote.leader_id s d.matching knows d.granted (length (inv.h.leader_log t s)) d.own there fits (omega arith)
+            (rw (one_config (take (length (inv.h.leader_log t s)) (inv.h.leader_log t s))) d.majority)
+
+        may : KnowsCommitted c.rank (Q c is_cluster) inv.h (inv.h.events s) d.granted.index
+        may = record {
+          may = record {
+            term = t;
+            leader = s;
+            elected = el;
+            written = fits;
+            in_log = subst (λ (l : List (Entry C D)). IsPrefix (take d.granted.index (inv.h.leader_log t s)) l) o.log
+                (prefix_take d.granted.index (inv.h.leader_log t s));
+            known = record {
+              in_term = t;
+              by_leader = s;
+              committed_to = d.granted.index;
+              counted_at = length (inv.h.leader_log t s);
+              committed = done;
+              not_later = omega arith;
+              is = prefix_itself (take d.granted.index (inv.h.leader_log t s));
+            };
+          };
+          reached = voted_term c.rank (Q c is_cluster) inv.h lawful s t s (inv.h.events s) (lawful.servers s) el.for_itself;
+        }
+
+    idles : Idles c s w v → Carried c w v inv
+    idles d =
+        carry inv.h here (subst (λ (x : State L C). IsServer c.kind (at_server c inv.h s) x (inv.h.events s)) (sym d.call) (inv.server s))
+        (subst (λ (x : State L C). OwnVote c inv.h s x) (sym d.call) (inv.own s)) (same_sent d.sends inv.h)
+
+    -- ---- a restart, and a purge
+
+    -- what a server knows to be committed, it knows to be so in part
+    less_known : (es : List (Event C K D)) (m n : ℕ) → m ≤ n → KnowsCommitted c.rank (Q c is_cluster) inv.h es n
+        → KnowsCommitted c.rank (Q c is_cluster) inv.h es m
+    less_known es m n le knows =
+        let may = knows.may in
+        record {
+          may = record {
+            term = may.term;
+            leader = may.leader;
+            elected = may.elected;
+            written = (let most = may.written in omega (arith, le, most));
+            in_log = prefix_trans (take_within m n (inv.h.leader_log may.term may.leader) le) may.in_log;
+            known = record {
+              in_term = may.known.in_term;
+              by_leader = may.known.by_leader;
+              committed_to = may.known.committed_to;
+              counted_at = may.known.counted_at;
+              committed = may.known.committed;
+              not_later = may.known.not_later;
+              is = prefix_trans (take_within m n (inv.h.leader_log may.term may.leader) le) may.known.is;
+            };
+          };
+          reached = knows.reached;
+        }
+
+    -- each part of what a server knows to be committed it may apply
+    committed_part : (i : ℕ) → suc (suc i) ≤ next_index (w.servers s).committed
+        → KnowsCommitted c.rank (Q c is_cluster) inv.h (inv.h.events s) (suc i)
+    committed_part i le =
+        let j = next_index (w.servers s).committed - 2 in
+        less_known (inv.h.events s) (suc i) (suc j) (omega (arith, le)) ((inv.server s).committed j (omega (arith, le)))
+
+    sends_snapshot : SendsSnapshot c s w v → Carried c w v inv
+    sends_snapshot d =
+        carry inv.h here (subst (λ (x : State L C). IsServer c.kind (at_server c inv.h s) x (inv.h.events s)) (sym d.call) (inv.server s))
+        (subst (λ (x : State L C). OwnVote c inv.h s x) (sym d.call) (inv.own s))
+        (one_sent inv.h (SeenSnapshot (w.servers s).vote.leader_id d.upto) d.sends
+        (λ r. record {
+          by_node = s;
+          is_for = d.leads.is_own;
+          in_use = (inv.server s).in_use;
+          elected_in = (is_own d.leads).is_elected d.leads.is_committed;
+          upto_in = in_lead d.leads d.upto d.logged;
+          is_committed = λ i at. own_known d.leads (suc i) (committed_part i (let m = d.is_committed in omega (arith, at, m)));
+        }))
+
+    same_own : (x : State L C) → x.vote ≡ (w.servers s).vote → OwnVote c inv.h s x
+    same_own x e =
+        let own : OwnVote c inv.h s (w.servers s) = inv.own s in
+        λ is_own term.
+        let o = own (ap (λ (y : VoteIn L). c.kind.voted y.leader_id) (sym e) ∙ is_own)
+        (subst (λ (y : VoteIn L). 0 < c.kind.term_of y.leader_id) e term) in
+        let t = ap (λ (y : VoteIn L). c.kind.committed y.leader_id) e in
+        let u = ap (λ (y : VoteIn L). y.committed) e in
+        record {
+          log = ap (λ (y : C). inv.h.leader_log y s) t ∙ o.log;
+          asked = λ none. ap (λ (y : C). inv.h.candidate_log y s) t ∙ o.asked (sym u ∙ none);
+          is_elected = λ yes. subst (λ (y : C). IsElected c.rank (Q c is_cluster) inv.h y s) (sym t) (o.is_elected (sym u ∙ yes));
+          acked = λ yes lt.
+              subst (λ (y : C). HasAcked y s (length (inv.h.leader_log y s)) (inv.h.events s)) (sym t)
+              (o.acked (sym u ∙ yes)
+              (subst (λ (y : C). length (inv.h.candidate_log y s) < length (inv.h.leader_log y s)) t lt));
+        }
+
+    restarts : Restarts c s w v → Carried c w v inv
+    restarts d =
+        let is = inv.server s in
+        carry inv.h here
+        (subst (λ (x : State L C). IsServer c.kind (at_server c inv.h s) x (inv.h.events s)) (sym d.call)
+        (record {
+          in_use = is.in_use;
+          reached = is.reached;
+          voted_for = is.voted_for;
+          log = record { last = is.log.last; each = is.log.each };
+          purged = is.purged;
+          committed = λ i at. committed_part i (let m = d.no_more in omega (arith, at, m));
+        }))
+        (subst (λ (x : State L C). OwnVote c inv.h s x) (sym d.call) (same_own (record (w.servers s) { committed = d.known }) refl))
+        (same_sent d.sends inv.h)
+
+    purges : Purges c s w v → Carried c w v inv
+    purges d =
+        let is = inv.server s in
+        carry inv.h here
+        (subst (λ (x : State L C). IsServer c.kind (at_server c inv.h s) x (inv.h.events s)) (sym d.call)
+        (record {
+          in_use = is.in_use;
+          reached = is.reached;
+          voted_for = is.voted_for;
+          log = record { last = rw d.same_end is.log.last; each = λ i y at. is.log.each i y (d.kept i y at) };
+          purged = λ i at. committed_part i (let m = d.is_committed in omega (arith, at, m));
+          committed = is.committed;
+        }))
+        (subst (λ (x : State L C). OwnVote c inv.h s x) (sym d.call)
+        (same_own (record (w.servers s) { ids = d.left; purged_next = d.next }) refl))
+        (same_sent d.sends inv.h)
+
+    -- ---- histories in which the logs of one node in one term change
+
+    -- the node is this server, and the term is this one
+    abbrev mine : C → C → K → Bool
+    mine t u e = c.same_node s e && c.kind.eq u t
+
+    mine_own : (t : C) → mine t t s ≡ true
+    mine_own t = rw (is_cluster.node_itself s, is_cluster.ranked.itself t) refl
+
+    mine_is : (t u : C) (e : K) → mine t u e ≡ true → (u ≡ t) × (e ≡ s)
+    mine_is t u e h =
+        let d = and_parts (c.same_node s e) (c.kind.eq u t) h in
+        (is_cluster.ranked.same u t d.1, sym (is_cluster.nodes s e d.0))
+
+    -- nobody writes, but for one leader
+    no_more : (t : C) (d : K) (log : List (Entry C D)) (x : Entry C D) → IsPrefix (log ++ x ∷ []) (inv.h.leader_log t d)
+        → length (inv.h.leader_log t d) ≤ length log → ⊥
+    no_more t d log x st le = let n = prefix_length st in let m = length-append log (x ∷ []) in omega (arith, n, m, le)
+
+    -- ---- a campaign
+
+    module _ (d : Campaigns c s w v) where
+      abbrev to_be : C
+      to_be = c.kind.committed d.leader
+
+      abbrev own_log : List (Entry C D)
+      own_log = log_after (inv.h.events s)
+
+      abbrev campaign : History C K D
+      campaign = record {
+        events = λ r. if c.same_node s r then GrantVote to_be s ∷ inv.h.events r else inv.h.events r;
+        candidate_log = λ u e. if mine to_be u e then own_log else inv.h.candidate_log u e;
+        leader_log = λ u e. if mine to_be u e then own_log else inv.h.leader_log u e;
+      }
+
+      events_own : campaign.events s ≡ GrantVote to_be s ∷ inv.h.events s
+      events_own = rw (is_cluster.node_itself s) refl
+
+      asks_with : campaign.candidate_log to_be s ≡ own_log
+      asks_with = rw (mine_own to_be) refl
+
+      writes_none : campaign.leader_log to_be s ≡ own_log
+      writes_none = rw (mine_own to_be) refl
+
+      to_be_in : IsAmong to_be c.terms
+      to_be_in = is_cluster.in_terms d.leader d.in_use
+
+      higher : term_after c.rank (inv.h.events s) < c.rank to_be
+      higher =
+          let is = inv.server s in
+          let lt = is_cluster.ranked.greater d.leader (w.servers s).vote.leader_id d.in_use is.in_use d.above in
+          omega (arith, lt, is.reached)
+
+      -- nobody has voted for the candidate in its term
+      never : (r : K) (u : C) (e : K) → u ≡ to_be → e ≡ s → HasVoted u e (inv.h.events r) → ⊥
+      never r u e same_term same voted =
+          let own : HasVoted to_be s (inv.h.events s) =
+          subst (λ (x : K). HasVoted to_be x (inv.h.events x)) same
+          (subst (λ (x : C). HasVoted x e (inv.h.events e)) same_term (inv.past.asked_first r u e voted)) in
+          let low = voted_term c.rank (Q c is_cluster) inv.h lawful s to_be s (inv.h.events s) (lawful.servers s) own in
+          let high = higher in omega (arith, low, high)
+
+      may_vote : MayGrantVote c.rank (Q c is_cluster) campaign s (inv.h.events s) to_be s
+      may_vote = record {
+        term = higher;
+        up_to_date = rw asks_with (inr (refl, omega arith));
+        own = λ same. asks_with;
+      }
+
+      voted_new : (r : K) (u : C) (e : K) → HasVoted u e (campaign.events r)
+          → (((to_be ≡ u) × (s ≡ e)) ⊎ HasVoted u e (inv.h.events r))
+      voted_new r u e x = by (c.same_node s r) x
+        where
+          by : (b : Bool) → HasVoted u e (if b then GrantVote to_be s ∷ inv.h.events r else inv.h.events r)
+              → (((to_be ≡ u) × (s ≡ e)) ⊎ HasVoted u e (inv.h.events r))
+          by true x = x
+          by false x = inr x
+
+      votes_in_use : (r : K) (u : C) (e : K) → HasVoted u e (campaign.events r) → IsAmong u c.terms
+      votes_in_use r u e x = by (voted_new r u e x)
+        where
+          by : (((to_be ≡ u) × (s ≡ e)) ⊎ HasVoted u e (inv.h.events r)) → IsAmong u c.terms
+          by (inl is) = subst (λ (y : C). IsAmong y c.terms) is.0 to_be_in
+          by (inr old) = inv.past.in_use r u e old
+
+      votes_after_own : (r : K) (u : C) (e : K) → HasVoted u e (campaign.events r) → HasVoted u e (campaign.events e)
+      votes_after_own r u e x = by (voted_new r u e x)
+        where
+          still_has : (b : Bool) → HasVoted u e (inv.h.events e)
+              → HasVoted u e (if b then GrantVote to_be s ∷ inv.h.events e else inv.h.events e)
+          still_has true x = inr x
+          still_has false x = x
+
+          by : (((to_be ≡ u) × (s ≡ e)) ⊎ HasVoted u e (inv.h.events r)) → HasVoted u e (campaign.events e)
+          by (inl is) =
+              subst (λ (y : K). HasVoted u e (campaign.events y)) is.1 (rw events_own (inl (is.0, is.1)))
+          by (inr old) = still_has (c.same_node s e) (inv.past.asked_first r u e old)
+
+      next : Next c.rank c.config_of c.initial c.quorum_of inv.h campaign
+      next = record {
+        servers = λ r. by r (c.same_node s r) refl;
+        leaders = λ u e. leader u e (mine to_be u e) refl;
+        ranks = λ u x e e' el el' same. is_cluster.distinct u x (votes_in_use e u e el.for_itself)
+            (votes_in_use e' x e' el'.for_itself) same;
+      }
+        where
+          by : (r : K) (b : Bool) → c.same_node s r ≡ b → (campaign.events r ≡ inv.h.events r)
+              ⊎ ServerStep c.rank c.config_of c.initial c.quorum_of inv.h campaign r
+          by r true is = inr (record {
+            event = GrantVote to_be s;
+            is = rw is refl;
+            may = subst (λ (x : K). MayGrantVote c.rank (Q c is_cluster) campaign x (inv.h.events x) to_be s)
+                (is_cluster.nodes s r is) may_vote;
+          })
+          by r false is = inl (rw is refl)
+
+          leader : (u : C) (e : K) (b : Bool) → mine to_be u e ≡ b
+              → StartsCampaign c.rank c.config_of c.initial c.quorum_of inv.h campaign u e
+              ⊎ LeaderAppends c.rank c.config_of c.initial c.quorum_of inv.h campaign u e
+          leader u e true is =
+              let m = mine_is to_be u e is in
+              inl (record { no_votes = λ r x. never r u e m.0 m.1 x; nothing_written = rw is refl })
+          leader u e false is = inr (record {
+            candidate_log = rw is refl;
+            added = [];
+            is = rw is (sym (append-nil (inv.h.leader_log u e)));
+            own_term = tt;
+            configs = λ log x m st le holds. absurd (true≢false (no_config x m holds));
+          })
+            where
+              no_config : (x : Entry C D) (m : M) → c.config_of x.content ≡ Some m → true ≡ false
+              no_config x m holds = let e = fixed x.content in cc
+
+      goes : GoesOn c s inv.h inv.earlier campaign
+      goes = record {
+        earlier = inv.h ∷ inv.earlier;
+        kept = λ g among. inr among;
+        past = record { execution = (next, inv.past.execution); in_use = votes_in_use; asked_first = votes_after_own };
+        stable = step_keeps_facts c.rank c.config_of c.initial c.quorum_of is_cluster.intersects campaign inv.h inv.earlier
+            (next, inv.past.execution);
+        others = λ r apart. rw apart refl;
+        logs = λ u e apart. (rw apart refl, rw apart refl);
+      }
+
+      after_vote : (n : ℕ) → KnowsCommitted c.rank (Q c is_cluster) campaign (inv.h.events s) n
+          → KnowsCommitted c.rank (Q c is_cluster) campaign (GrantVote to_be s ∷ inv.h.events s) n
+      after_vote n knows = record {
+        may = record {
+          term = knows.may.term;
+          leader = knows.may.leader;
+          elected = knows.may.elected;
+          written = knows.may.written;
+          in_log = knows.may.in_log;
+          known = knows.may.known;
+        };
+        reached = (let low = knows.reached in let later = may_vote.term in omega (arith, low, later));
+      }
+
+      one_node : (a b : K) → Some a ≡ Some b → a ≡ b
+      one_node a b e = cc
+
+      campaigns : Carried c w v inv
+      campaigns =
+          let old = moves c is_cluster inv.h inv.earlier inv.past campaign goes.stable s (w.servers s) (inv.h.events s)
+          (inv.server s) in
+          carry campaign goes
+          (subst (λ (x : State L C). IsServer c.kind (at_server c campaign s) x (campaign.events s)) (sym d.call)
+          (subst (λ (es : List (Event C K D)). IsServer c.kind (at_server c campaign s)
+          (record (w.servers s) { vote = uncommitted d.leader }) es) (sym events_own)
+          (record {
+            in_use = d.in_use;
+            reached = omega arith;
+            voted_for = λ e none real for. inl (refl, one_node s e (sym d.is_own ∙ for));
+            log = record { last = old.log.last; each = old.log.each };
+            purged = λ i at. after_vote (suc i) (old.purged i at);
+            committed = λ i at. after_vote (suc i) (old.committed i at);
+          })))
+          (subst (λ (x : State L C). OwnVote c campaign s x) (sym d.call)
+          (λ is_own term. record {
+            log = writes_none ∙ sym (ap log_after events_own);
+            asked = λ none. asks_with ∙ sym (ap log_after events_own);
+            is_elected = λ yes. absurd (true≢false (sym yes));
+            acked = λ yes lt. absurd (true≢false (sym yes));
+          }))
+          (one_sent campaign (SeenAsked (uncommitted d.leader) (last_id (w.servers s).ids)) d.sends
+          (λ r other. record {
+            candidate = s;
+            is_for = d.is_own;
+            other = λ same. other (d.is_own ∙ ap (λ (x : K). Some x) same);
+            not_committed = refl;
+            term = d.term;
+            in_use = d.in_use;
+            own = rw events_own (inl (refl, refl));
+            log = rw asks_with (inv.server s).log.last;
+          }))
+
+    -- ---- a leader writes an entry
+
+    module _ (d : Writes c s w v) where
+      abbrev in_term : C
+      in_term = c.kind.committed (w.servers s).vote.leader_id
+
+      abbrev entry : Entry C D
+      entry = record { term = in_term; content = d.content }
+
+      abbrev longer : List (Entry C D)
+      longer = log_after (inv.h.events s) ++ entry ∷ []
+
+      o : IsOwn c inv.h s (w.servers s)
+      o = inv.own s d.leads.is_own d.leads.term
+
+      el : IsElected c.rank (Q c is_cluster) inv.h in_term s
+      el = o.is_elected d.leads.is_committed
+
+      abbrev written : History C K D
+      written = record {
+        events = inv.h.events;
+        candidate_log = inv.h.candidate_log;
+        leader_log = λ u e. if mine in_term u e then inv.h.leader_log u e ++ entry ∷ [] else inv.h.leader_log u e;
+      }
+
+      written_is : written.leader_log in_term s ≡ longer
+      written_is = rw (mine_own in_term) (ap (λ (l : List (Entry C D)). l ++ entry ∷ []) o.log)
+
+      first_next : Next c.rank c.config_of c.initial c.quorum_of inv.h written
+      first_next = record {
+        servers = λ r. inl refl;
+        leaders = λ u e. inr (leader u e (mine in_term u e) refl);
+        ranks = λ u x e e' a b same. is_cluster.distinct u x (inv.past.in_use e u e a.for_itself)
+            (inv.past.in_use e' x e' b.for_itself) same;
+      }
+        where
+          no_config : (x : Entry C D) (m : M) → c.config_of x.content ≡ Some m → true ≡ false
+          no_config x m holds = let e = fixed x.content in cc
+
+          leader : (u : C) (e : K) (b : Bool) → mine in_term u e ≡ b
+              → LeaderAppends c.rank c.config_of c.initial c.quorum_of inv.h written u e
+          leader u e true is = record {
+            candidate_log = refl;
+            added = entry ∷ [];
+            is = rw is refl;
+            own_term = (sym (mine_is in_term u e is).0, tt);
+            configs = λ log x m st le holds. absurd (true≢false (no_config x m holds));
+          }
+          leader u e false is = record {
+            candidate_log = refl;
+            added = [];
+            is = rw is (sym (append-nil (inv.h.leader_log u e)));
+            own_term = tt;
+            configs = λ log x m st le holds. absurd (true≢false (no_config x m holds));
+          }
+
+      first_goes : GoesOn c s inv.h inv.earlier written
+      first_goes = record {
+        earlier = inv.h ∷ inv.earlier;
+        kept = λ g among. inr among;
+        past = record { execution = (first_next, inv.past.execution); in_use = inv.past.in_use; asked_first = inv.past.asked_first };
+        stable = step_keeps_facts c.rank c.config_of c.initial c.quorum_of is_cluster.intersects written inv.h inv.earlier
+            (first_next, inv.past.execution);
+        others = λ r apart. refl;
+        logs = λ u e apart. (refl, rw apart refl);
+      }
+
+      abbrev append : Event C K D
+      append = Append in_term s longer
+
+      abbrev ack : Event C K D
+      ack = Ack in_term s (length longer)
+
+      el_written : IsElected c.rank (Q c is_cluster) written in_term s
+      el_written = (first_goes.stable.elected in_term s el).0
+
+      may_append : MayAppend c.rank (Q c is_cluster) written (inv.h.events s) in_term s longer
+      may_append = record {
+        term = (inv.server s).reached;
+        elected = el_written;
+        keeps = λ pl x y. subst (λ (l : List (Entry C D)). IsPrefix pl l) written_is y;
+        of_these = inr (rw written_is (prefix_itself longer));
+      }
+
+      abbrev appended : History C K D
+      appended = with_event c is_cluster written s append
+
+      second_goes : GoesOn c s written first_goes.earlier appended
+      second_goes = one_event c is_cluster written first_goes.earlier first_goes.past s append may_append tt
+
+      events_two : appended.events s ≡ append ∷ inv.h.events s
+      events_two = own_events c is_cluster written s append
+
+      may_ack : MayAck c.rank (Q c is_cluster) appended (append ∷ inv.h.events s) in_term s (length longer)
+      may_ack = record {
+        reached = omega arith;
+        elected = (second_goes.stable.elected in_term s el_written).0;
+        written = rw written_is (omega arith);
+        has_kept = (rw written_is (prefix_take (length longer) longer), inl (omega arith));
+      }
+
+      abbrev acked : History C K D
+      acked = with_event c is_cluster appended s ack
+
+      third_goes : GoesOn c s appended second_goes.earlier acked
+      third_goes =
+          one_event c is_cluster appended second_goes.earlier second_goes.past s ack
+          (subst (λ (es : List (Event C K D)). MayAck c.rank (Q c is_cluster) appended es in_term s (length longer))
+          (sym events_two) may_ack) tt
+
+      events_three : acked.events s ≡ ack ∷ append ∷ inv.h.events s
+      events_three = own_events c is_cluster appended s ack ∙ ap (λ (es : List (Event C K D)). ack ∷ es) events_two
+
+      stable : FactsAreStable c.rank c.config_of c.initial c.quorum_of inv.h acked
+      stable =
+          execution_keeps_facts c.rank c.config_of c.initial c.quorum_of is_cluster.intersects acked third_goes.earlier
+          third_goes.past.execution inv.h (third_goes.kept inv.h (second_goes.kept inv.h (first_goes.kept inv.h (inl refl))))
+
+      goes_on : GoesOn c s inv.h inv.earlier acked
+      goes_on = record {
+        earlier = third_goes.earlier;
+        kept = λ g among. third_goes.kept g (second_goes.kept g (first_goes.kept g among));
+        past = third_goes.past;
+        stable = stable;
+        others = λ r apart. third_goes.others r apart ∙ second_goes.others r apart;
+        logs = λ u e apart. first_goes.logs u e apart;
+      }
+
+      after_both : (n : ℕ) → KnowsCommitted c.rank (Q c is_cluster) acked (inv.h.events s) n
+          → KnowsCommitted c.rank (Q c is_cluster) acked (ack ∷ append ∷ inv.h.events s) n
+      after_both n knows = record {
+        may = record {
+          term = knows.may.term;
+          leader = knows.may.leader;
+          elected = knows.may.elected;
+          written = knows.may.written;
+          in_log = prefix_trans knows.may.in_log (record { rest = entry ∷ []; is = refl });
+          known = knows.may.known;
+        };
+        reached = (let low = knows.reached in let least = (inv.server s).reached in omega (arith, low, least));
+      }
+
+      abbrev own_id : LogIdOf C
+      own_id = record { leader_id = in_term; index = suc d.last.index }
+
+      last_snoc : (xs : List (LogIdOf C)) → last_id (xs ++ own_id ∷ []) ≡ Some own_id
+      last_snoc [] = refl
+      last_snoc (x ∷ []) = refl
+      last_snoc (x ∷ y ∷ xs) = last_snoc (y ∷ xs)
+
+      get_snoc : (l : List (Entry C D)) → slice_get (l ++ entry ∷ []) (length l) ≡ Some entry
+      get_snoc [] = refl
+      get_snoc (x ∷ l) = get_snoc l
+
+      at_snoc : (xs : List (LogIdOf C)) (i : ℕ) (y : LogIdOf C) → id_at (xs ++ own_id ∷ []) i ≡ Some y
+          → (id_at xs i ≡ Some y) ⊎ (own_id ≡ y)
+      at_snoc [] i y at = by (own_id.index == i) at
+        where
+          by : (b : Bool) → (if b then Some own_id else None) ≡ Some y → (id_at [] i ≡ Some y) ⊎ (own_id ≡ y)
+          by true e = inr cc
+          by false e = cc
+      at_snoc (x ∷ xs) i y at = by (x.index == i) at (at_snoc xs i y)
+        where
+          by : (b : Bool) → (if b then Some x else id_at (xs ++ own_id ∷ []) i) ≡ Some y
+              → (id_at (xs ++ own_id ∷ []) i ≡ Some y → (id_at xs i ≡ Some y) ⊎ (own_id ≡ y))
+              → ((if b then Some x else id_at xs i) ≡ Some y) ⊎ (own_id ≡ y)
+          by true e rest = inl e
+          by false e rest = rest e
+
+      old_end : length (log_after (inv.h.events s)) ≡ d.last.index
+      old_end =
+          let l : IsLastId c.first c.terms (log_after (inv.h.events s)) (Some d.last) = rw d.is_last at (inv.server s).log.last in l.0
+
+      own_in : IsInLog c.first c.terms longer own_id
+      own_in = record {
+        at = (entry, ap (λ (n : ℕ). slice_get longer n) (sym old_end) ∙ get_snoc (log_after (inv.h.events s)), refl);
+        in_use = is_cluster.in_terms (w.servers s).vote.leader_id (inv.server s).in_use;
+      }
+
+      last_now : IsLastId c.first c.terms longer (last_id ((w.servers s).ids ++ own_id ∷ []))
+      last_now =
+          rw (last_snoc (w.servers s).ids)
+          (let n = length-append (log_after (inv.h.events s)) (entry ∷ []) in omega (arith, n, old_end), own_in.at, own_in.in_use)
+
+      each_now : (i : ℕ) (y : LogIdOf C) → id_at ((w.servers s).ids ++ own_id ∷ []) i ≡ Some y → IsInLog c.first c.terms longer y
+      each_now i y at = by (at_snoc (w.servers s).ids i y at)
+        where
+          by : (id_at (w.servers s).ids i ≡ Some y) ⊎ (own_id ≡ y) → IsInLog c.first c.terms longer y
+          by (inl old) =
+              grows_in c (log_after (inv.h.events s)) longer (record { rest = entry ∷ []; is = refl }) y ((inv.server s).log.each i y old)
+          by (inr same) = subst (λ (x : LogIdOf C). IsInLog c.first c.terms longer x) same own_in
+
+      writes : Carried c w v inv
+      writes =
+          let old = moves c is_cluster inv.h inv.earlier inv.past acked stable s (w.servers s) (inv.h.events s)
+          (inv.server s) in
+          carry acked goes_on
+          (subst (λ (x : State L C). IsServer c.kind (at_server c acked s) x (acked.events s)) (sym d.call)
+          (subst (λ (es : List (Event C K D)). IsServer c.kind (at_server c acked s)
+          (record (w.servers s) { ids = (w.servers s).ids ++ own_id ∷ [] }) es) (sym events_three)
+          (record {
+            in_use = (inv.server s).in_use;
+            reached = omega arith;
+            voted_for = λ e none real for. absurd (true≢false (sym d.leads.is_committed ∙ none));
+            log = record { last = last_now; each = each_now };
+            purged = λ i at. after_both (suc i) (old.purged i at);
+            committed = λ i at. after_both (suc i) (old.committed i at);
+          })))
+          (subst (λ (x : State L C). OwnVote c acked s x) (sym d.call)
+          (λ is_own term. record {
+            log = written_is ∙ sym (ap log_after events_three);
+            asked = λ none. absurd (true≢false (sym d.leads.is_committed ∙ none));
+            is_elected = λ yes. (stable.elected in_term s el).0;
+            acked = λ yes lt. rw (events_three, written_is) (inl (refl, refl, omega arith));
+          }))
+          (same_sent d.sends acked)
+
+    -- ---- each step
+
+    one_step : SeenDoes c s w v → Carried c w v inv
+    one_step (SeesVote d) = handles_vote d
+    one_step (SeesMatch d) = handles_match d
+    one_step (SeesConflict d) = handles_conflict d
+    one_step (SeesCampaign d) = campaigns d
+    one_step (SeesElection d) = made_leader d
+    one_step (SeesWrite d) = writes d
+    one_step (SeesSend d) = sends d
+    one_step (SeesIdle d) = idles d
+    one_step (SeesCommit d) = commits d
+    one_step (SeesRestart d) = restarts d
+    one_step (SeesPurge d) = purges d
+    one_step (SeesSnapshot d) = handles_snapshot d
+    one_step (SeesSendSnapshot d) = sends_snapshot d
+
+module _ {L C K D M : Type 0} (c : SeenCluster L C K D M) (is_cluster : IsSeenCluster c) (fixed : (d : D) → c.config_of d ≡ None)
+    (first_in : IsAmong c.first c.terms)
+    (not_first : (l : L) → IsAmong l c.leaders → 0 < c.kind.term_of l → c.kind.committed l ≡ c.first → ⊥) where
+  abbrev nothing : History C K D
+  nothing = record { events = λ s. []; candidate_log = λ t d. []; leader_log = λ t d. [] }
+
+  begins : (w : SeenWorld L C K) → IsSeenFirst c w → Inv c w
+  begins w f = record {
+    h = nothing;
+    earlier = [];
+    past = record {
+      execution = record { events = λ s. refl; nothing_written = λ t d. refl };
+      in_use = λ s t d v. absurd v;
+      asked_first = λ s t d v. absurd v;
+    };
+    server = λ s. record {
+      in_use = f.in_use s;
+      reached = omega arith;
+      voted_for = λ d none real for. absurd (omega (arith, real, f.no_vote s));
+      log = record { last = last s (f.ids s); each = λ i y at. each s i y (f.ids s) at };
+      purged = λ i at. absurd (omega (arith, at, f.purged s));
+      committed = λ i at. absurd (omega (arith, at, f.committed s));
+    };
+    own = λ s is_own term. absurd (omega (arith, term, f.no_vote s));
+    honest = λ m among. absurd (none_sent m among);
+  }
+    where
+      first_id : LogIdOf C
+      first_id = record { leader_id = c.first; index = 0 }
+
+      last : (s : K) → ((w.servers s).ids ≡ []) ⊎ ((w.servers s).ids ≡ (record { leader_id = c.first; index = 0 }) ∷ [])
+          → IsLastId {D = D} c.first c.terms [] (last_id (w.servers s).ids)
+      last s (inl e) = rw e refl
+      last s (inr e) = rw e (refl, refl, first_in)
+
+      each : (s : K) (i : ℕ) (y : LogIdOf C)
+          → ((w.servers s).ids ≡ []) ⊎ ((w.servers s).ids ≡ (record { leader_id = c.first; index = 0 }) ∷ [])
+          → id_at (w.servers s).ids i ≡ Some y → IsInLog {D = D} c.first c.terms [] y
+      each s i y (inl e) at = let g : id_at [] i ≡ Some y = subst (λ (l : List (LogIdOf C)). id_at l i ≡ Some y) e at in cc
+      each s i y (inr e) at =
+          by (0 == i) (subst (λ (l : List (LogIdOf C)). id_at l i ≡ Some y) e at)
+        where
+          by : (b : Bool) → (if b then Some (record { leader_id = c.first; index = 0 }) else None) ≡ Some y
+              → IsInLog {D = D} c.first c.terms [] y
+          by true g =
+              let same : (record { leader_id = c.first; index = 0 }) ≡ y = cc in
+              subst (λ (x : LogIdOf C). IsInLog {D = D} c.first c.terms [] x) same (record { at = refl; in_use = first_in })
+          by false g = cc
+
+      none_sent : (m : SeenMessage L C K) → IsAmong m w.network → ⊥
+      none_sent m among = let g : IsAmong m [] = subst (λ (n : List (SeenMessage L C K)). IsAmong m n) f.sent among in g
+
+  -- an earlier world of a run
+  record Was (v w : SeenWorld L C K) (inv : Inv c w) : Type 0 where
+    past_inv : Inv c v
+    among : IsAmong past_inv.h (inv.h ∷ inv.earlier)
+
+  record Came (w : SeenWorld L C K) (ws : List (SeenWorld L C K)) : Type 0 where
+    inv : Inv c w
+    olds : (v : SeenWorld L C K) → IsAmong v (w ∷ ws) → Was v w inv
+
+  run_keeps : (w : SeenWorld L C K) (ws : List (SeenWorld L C K)) → IsSeenRun c w ws → Came w ws
+  run_keeps w [] run =
+      record { inv = begins w run; olds = λ v among. first v among }
+    where
+      first : (v : SeenWorld L C K) → IsAmong v (w ∷ []) → Was v w (begins w run)
+      first v (inl e) =
+          subst (λ (x : SeenWorld L C K). Was x w (begins w run)) (sym e) (record { past_inv = begins w run; among = inl refl })
+      first v (inr none) = absurd none
+  run_keeps w (u ∷ us) run =
+      next (run_keeps u us run.1)
+    where
+      next : Came u us → Came w (u ∷ us)
+      next r =
+          let s = one_step c is_cluster u w r.inv run.0.server run.0.others fixed not_first run.0.does in
+          record { inv = s.now; olds = λ v among. old r s v among }
+        where
+          old : (r : Came u us) (s : Carried c u w r.inv) (v : SeenWorld L C K) → IsAmong v (w ∷ u ∷ us) → Was v w s.now
+          old r s v (inl e) =
+              subst (λ (x : SeenWorld L C K). Was x w s.now) (sym e) (record { past_inv = s.now; among = inl refl })
+          old r s v (inr among) =
+              let o = r.olds v among in record { past_inv = o.past_inv; among = s.kept o.past_inv.h o.among }
+
+  module _ (w : SeenWorld L C K) (inv : Inv c w) where
+    entry_at : (s : K) (i : ℕ) (x : LogIdOf C) → id_at (w.servers s).ids (suc i) ≡ Some x
+        → (e : Entry C D) × (slice_get (log_after (inv.h.events s)) i ≡ Some e) × (e.term ≡ x.leader_id)
+    entry_at s i x at =
+        let n = index_found (w.servers s).ids (suc i) x at in
+        subst (λ (j : ℕ). IsIdAt c.first (log_after (inv.h.events s)) j x) n ((inv.server s).log.each (suc i) x at).at
+
+  same_entry : (a b : List (Entry C D)) (n m i : ℕ) → i < n → i < m → (e : Entry C D) → slice_get a i ≡ Some e
+      → IsPrefix (take n a) (take m b) → slice_get b i ≡ Some e
+  same_entry a b n m i lt lt' e at st =
+      let one = take_get n i a lt in
+      let long = get_within (take n a) i e (one ∙ at) in
+      sym (take_get m i b lt') ∙ prefix_get i st (omega (arith, long)) ∙ one ∙ at
+
+  -- at index 0 each log has the entry that starts the cluster
+  first_at : (u : SeenWorld L C K) (inv : Inv c u) (s : K) (x : LogIdOf C) → id_at (u.servers s).ids 0 ≡ Some x → x.leader_id ≡ c.first
+  first_at u inv s x at =
+      let n = index_found (u.servers s).ids 0 x at in
+      subst (λ (j : ℕ). IsIdAt c.first (log_after (inv.h.events s)) j x) n ((inv.server s).log.each 0 x at).at
+
+  agree : (w u v : SeenWorld L C K) (inv : Inv c w) → Was u w inv → Was v w inv → SeenAgree c u v
+  agree w u v inv a b s r zero x y low low' at at' =
+      first_at u a.past_inv s x at ∙ sym (first_at v b.past_inv r y at')
+  agree w u v inv a b s r (suc i) x y low low' at at' =
+      let j = next_index (u.servers s).committed - 2 in
+      let k = next_index (v.servers r).committed - 2 in
+      let e = entry_at u a.past_inv s i x at in
+      let f = entry_at v b.past_inv r i y at' in
+      by j k e f (omega (arith, low)) (omega (arith, low'))
+      (all_times_agree c.rank c.config_of c.initial c.quorum_of is_cluster.intersects inv.h inv.earlier inv.past.execution a.past_inv.h
+      b.past_inv.h a.among b.among s r (suc j) (suc k)
+      ((a.past_inv.server s).committed j (omega (arith, low))).may ((b.past_inv.server r).committed k (omega (arith, low'))).may)
+    where
+      same_some : (a b : Entry C D) → Some a ≡ Some b → a ≡ b
+      same_some a b e = cc
+
+      by : (j k : ℕ)
+          → (e : (e : Entry C D) × (slice_get (log_after (a.past_inv.h.events s)) i ≡ Some e) × (e.term ≡ x.leader_id))
+          → (f : (e : Entry C D) × (slice_get (log_after (b.past_inv.h.events r)) i ≡ Some e) × (e.term ≡ y.leader_id))
+          → i < suc j → i < suc k
+          → IsPrefix (take (suc j) (log_after (a.past_inv.h.events s))) (take (suc k) (log_after (b.past_inv.h.events r)))
+          ⊎ IsPrefix (take (suc k) (log_after (b.past_inv.h.events r))) (take (suc j) (log_after (a.past_inv.h.events s)))
+          → x.leader_id ≡ y.leader_id
+      by j k e f lt lt' (inl st) =
+          let g = same_entry (log_after (a.past_inv.h.events s)) (log_after (b.past_inv.h.events r)) (suc j) (suc k) i lt lt' e.0 e.1 st in
+          sym e.2 ∙ ap (λ (a : Entry C D). a.term) (same_some e.0 f.0 (sym g ∙ f.1)) ∙ f.2
+      by j k e f lt lt' (inr st) =
+          let g = same_entry (log_after (b.past_inv.h.events r)) (log_after (a.past_inv.h.events s)) (suc k) (suc j) i lt' lt f.0 f.1 st in
+          sym e.2 ∙ ap (λ (a : Entry C D). a.term) (same_some e.0 f.0 (sym e.1 ∙ g)) ∙ f.2
+
+pub runs_are_safe : {L C K D M : Type 0} → SeenRunsAreSafe L C K D M
+runs_are_safe c is_cluster fixed first_in not_first w ws run u v in_u in_v =
+    let came = run_keeps c is_cluster fixed first_in not_first w ws run in
+    agree c is_cluster fixed first_in not_first w u v came.inv (came.olds u in_u) (came.olds v in_v)

@@ -1,0 +1,947 @@
+-- A run of servers is a run of their views, so it is safe.
+use Rattle.std.specs.Prelude.{
+  ◌≡◌,
+  ◌⊎◌,
+  ◌<◌,
+  ◌+◌,
+  ℕ,
+  suc,
+  Bool,
+  true,
+  false,
+  ◌&&◌,
+  ◌||◌,
+  List,
+  [],
+  ◌∷◌,
+  ◌++◌,
+  map,
+  max,
+  Option,
+  Some,
+  None,
+  if◌then◌else◌,
+}
+use Rattle.std.specs.Option.{option_eq, option_map_or}
+use Rattle.std.proofs.Common.{refl, sym, ap, subst, ◌∙◌, inl, inr, arith, true≢false}
+use Rattle.std.proofs.lemmas.Bool.{and_parts, false≢true}
+use mathlib.Core.Bool.{beq}
+use Rattle.raft_base.specs.LogId.{id_le, id_lt, next_index}
+use Rattle.raft_base.specs.LogIdLawful.{optional-log_id_cmp-total}
+use Rattle.raft_base.specs.UTime.{moment_of, utime_of}
+use Rattle.raft_base.specs.declared.log_id.LogIdOf.{LogIdOf}
+use Rattle.raft_base.specs.declared.vote.VoteIn.{VoteIn}
+use Rattle.raft_handlers.specs.Append.{Answers, IfHigherVote}
+use Rattle.raft_handlers.specs.Campaign.{Campaign, has_vote_of, is_counted}
+use Rattle.raft_handlers.specs.Compared.{LeaderMembers, compared}
+use Rattle.raft_handlers.specs.Entries.{entry_ids}
+use Rattle.raft_handlers.specs.Follow.{elected, heard, is_followed}
+use Rattle.raft_handlers.specs.Leadership.{Leadership, MajorityMatches, entry_of, granted_by, is_of_leader}
+use Rattle.raft_handlers.specs.Snapshot.{AnswersSnapshot}
+use Rattle.raft_handlers.specs.declared.message.InstallSnapshot.{InstallSnapshot}
+use Rattle.raft_handlers.specs.declared.message.Outcome.{Outcome}
+use Rattle.raft_handlers.specs.declared.message.Outcome.TheVariants.{Conflict, HigherVote, Matches}
+use Rattle.raft_members.specs.quorum.Majority.{is_joint_majority}
+use Rattle.raft_progress.specs.progress.Comparisons.{OrdMembers}
+use Rattle.raft_progress.proofs.lemmas.OrderLemmas.{AtMost-refl}
+use Rattle.raft_progress.specs.declared.entry.ProgressEntryOf.{ProgressEntryOf}
+use Rattle.raft_safety.specs.Ranks.{IsAmong, rank_in}
+use Rattle.raft_safety.proofs.lemmas.JointLemmas.{itself_intersects}
+use Rattle.raft_state.specs.SnapshotMeta.{IsSnapshotCopy}
+use Rattle.raft_state.specs.log_id_list.FullLog.{full_log}
+use Rattle.raft_state.specs.log_id_list.Keys.{may_be_keys}
+use Rattle.raft_state.specs.log_id_list.LogReads.{id_at, last_id}
+use Rattle.raft_state.specs.raft_state.Sound.{IsSound}
+use Rattle.raft_state.specs.membership_state.MembershipMoves.{after_commit}
+use Rattle.raft_state.specs.raft_state.Commit.{state_after_commit}
+use Rattle.raft_state.specs.raft_state.Valid.{none_or_logged}
+use Rattle.raft_state.specs.raft_state.VoteAndLog.{log_view_of, vote_of}
+use Rattle.raft_state.specs.declared.entry.EntryOf.{EntryOf}
+use Rattle.raft_state.specs.declared.raft_state.RaftStateIn.{RaftStateIn}
+use Rattle.raft_state.proofs.lemmas.log_id_list.ExtendLemmas.{is_key_list}
+use Rattle.raft_state.proofs.lemmas.log_id_list.SameLogLemmas.{SameLog, says_same}
+use Rattle.raft_refinement.specs.Electing.{match_of}
+use Rattle.raft_refinement.specs.Running.{
+  AnswersCandidate,
+  AnswersLeader,
+  AnswersSnapshotOf,
+  Answered,
+  Cluster,
+  CommitsGranted,
+  CommittedAgree,
+  CountsVote,
+  DoesOne,
+  EntriesSent,
+  IsCluster,
+  IsElectedLeader,
+  IsFirst,
+  IsRun,
+  Leads,
+  Message,
+  OneAppend,
+  OneCampaign,
+  OneCommit,
+  OneCount,
+  OneElection,
+  OneProposal,
+  OnePurge,
+  OneRestart,
+  OneSend,
+  OneSendSnapshot,
+  OneSnapshot,
+  OneVote,
+  Proposes,
+  Purges,
+  Restarts,
+  RunsAreSafe,
+  SendsEntries,
+  SendsSnapshot,
+  SnapshotSent,
+  StartsCampaign,
+  Step,
+  VoteAnswered,
+  VoteAsked,
+  World,
+}
+use Rattle.raft_refinement.specs.Seen.{leaders_of, seen}
+use Rattle.raft_refinement.specs.Server.{State}
+use Rattle.raft_refinement.proofs.AppendingLemmas.{index_found}
+use Rattle.raft_refinement.proofs.LawLemmas.{AreExact, Laws, are_ranked, from_map, in_terms, not_first, ranks}
+use Rattle.raft_refinement.proofs.PlaceLemmas.{beq_is, greater_leader, same_votes, some_same}
+use Rattle.raft_refinement.proofs.RunningLemmas.{runs_are_safe}
+use Rattle.raft_refinement.proofs.SeenLemmas.{
+  committed_found,
+  conflicts_seen,
+  exact_found,
+  followed_if,
+  installs_seen,
+  matches_seen,
+  not_higher,
+  sound_is_whole,
+}
+use Rattle.raft_refinement.proofs.Stepping.{IsSeenCluster, SeenCluster}
+use Rattle.raft_refinement.proofs.Views.{
+  IsSeenFirst,
+  IsSeenRun,
+  SeenAsked,
+  SeenDoes,
+  SeenMatched,
+  SeenMessage,
+  SeenSent,
+  SeenSnapshot,
+  SeenStep,
+  SeenVoted,
+  SeenWorld,
+  SeesCampaign,
+  SeesCommit,
+  SeesConflict,
+  SeesElection,
+  SeesIdle,
+  SeesMatch,
+  SeesPurge,
+  SeesRestart,
+  SeesSend,
+  SeesSendSnapshot,
+  SeesSnapshot,
+  SeesVote,
+  SeesWrite,
+}
+
+-- ---- what is seen of messages
+
+among_first : {X : Type 0} (x : X) (xs ys : List X) → IsAmong x xs → IsAmong x (xs ++ ys)
+among_first x [] ys none = absurd none
+among_first x (y ∷ xs) ys (inl e) = inl e
+among_first x (y ∷ xs) ys (inr a) = inr (among_first x xs ys a)
+
+among_second : {X : Type 0} (x : X) (xs ys : List X) → IsAmong x ys → IsAmong x (xs ++ ys)
+among_second x [] ys a = a
+among_second x (y ∷ xs) ys a = inr (among_second x xs ys a)
+
+among_mapped : {X Y : Type 0} (f : X → Y) (x : X) (xs : List X) → IsAmong x xs → IsAmong (f x) (map f xs)
+among_mapped f x [] none = absurd none
+among_mapped f x (y ∷ ys) (inl e) = inl (ap f e)
+among_mapped f x (y ∷ ys) (inr a) = inr (among_mapped f x ys a)
+
+abbrev pub seen_snapshot : {K L C : Type 0} → L → Option (LogIdOf C) → List (SeenMessage L C K)
+seen_snapshot leader None = []
+seen_snapshot leader (Some upto) = SeenSnapshot leader upto ∷ []
+
+abbrev pub seen_answer : {K L C : Type 0} → K → L → Outcome L C → List (SeenMessage L C K)
+seen_answer from leader (Matches upto) = SeenMatched from leader upto ∷ []
+seen_answer from leader (Conflict at) = []
+seen_answer from leader (HigherVote vote) = []
+
+-- what matters of a message
+abbrev pub seen_message : {K N L C D : Type 0} → Message K N L C D → List (SeenMessage L C K)
+seen_message (VoteAsked r) = SeenAsked r.vote r.last_log_id ∷ []
+seen_message (VoteAnswered from r) = if r.granted then SeenVoted from r.vote ∷ [] else []
+seen_message (EntriesSent r) = SeenSent r.leader_id r.prev (entry_ids r.entries.items) r.committed ∷ []
+seen_message (SnapshotSent r) = seen_snapshot r.leader_id r.meta.last_log_id
+seen_message (Answered from leader o) = seen_answer from leader o
+
+abbrev pub seen_network : {K N L C D : Type 0} → List (Message K N L C D) → List (SeenMessage L C K)
+seen_network [] = []
+seen_network (m ∷ ms) = seen_message m ++ seen_network ms
+
+in_network : {K N L C D : Type 0} (m : Message K N L C D) (x : SeenMessage L C K) (ms : List (Message K N L C D)) → IsAmong m ms
+    → IsAmong x (seen_message m) → IsAmong x (seen_network ms)
+in_network m x [] none has = absurd none
+in_network m x (y ∷ ms) (inl e) has =
+    among_first x (seen_message y) (seen_network ms) (subst (λ (z : Message _ _ _ _ _). IsAmong x (seen_message z)) e has)
+in_network m x (y ∷ ms) (inr a) has = among_second x (seen_message y) (seen_network ms) (in_network m x ms a has)
+
+-- the view of a world
+abbrev pub world_seen : {K N I L C D : Type 0} → World K N I L C D → SeenWorld L C K
+world_seen w = record { servers = λ r. seen (w.servers r); network = seen_network w.network }
+
+-- views with equal parts are equal
+same_state : {L C : Type 0} (x y : State L C) → x.vote ≡ y.vote → x.ids ≡ y.ids → x.purged_next ≡ y.purged_next
+    → x.committed ≡ y.committed → x ≡ y
+same_state x y a b c d = λ i. record { vote = a i; ids = b i; purged_next = c i; committed = d i }
+
+-- the log ids of two logs that are the same
+same_logs : {C : Type 0} (eq : C → C → Bool) → ((x y : C) → eq x y ≡ true → x ≡ y) → (xs ys : List (LogIdOf C)) → SameLog eq xs ys → xs ≡ ys
+same_logs eq exact [] [] h = refl
+same_logs eq exact [] (y ∷ ys) h = absurd h
+same_logs eq exact (x ∷ xs) [] h = absurd h
+same_logs eq exact (x ∷ xs) (y ∷ ys) h =
+    let a = exact x.leader_id y.leader_id h.0 in
+    let b : x.index ≡ y.index = h.1 in
+    let rest = same_logs eq exact xs ys h.2 in
+    λ i. record { leader_id = a i; index = b i } ∷ rest i
+
+-- what is fixed of the views
+abbrev pub viewed : {K N L C : Type 0} → OrdMembers K → (N → N → Bool) → LeaderMembers L K C → OrdMembers C → Cluster K L
+    → SeenCluster L C K (Unit {0}) (List (List K))
+viewed ids node_eq kind logs c = record {
+  kind = leaders_of (compared ids node_eq kind logs);
+  rank = rank_in logs.cmp (map kind.committed (c.start ∷ c.leaders));
+  config_of = λ d. None;
+  initial = c.configs;
+  quorum_of = is_joint_majority ids.eq;
+  leaders = c.start ∷ c.leaders;
+  terms = map kind.committed (c.start ∷ c.leaders);
+  first = kind.committed c.start;
+  same_node = ids.eq;
+}
+
+is_viewed : {K N L C : Type 0} {ids : OrdMembers K} (node_eq : N → N → Bool) {kind : LeaderMembers L K C} {logs : OrdMembers C}
+    → Laws ids kind logs → AreExact ids kind logs → (c : Cluster K L) → IsCluster kind c
+    → IsSeenCluster (viewed ids node_eq kind logs c)
+is_viewed node_eq laws exact c is_cluster = record {
+  ranked = are_ranked laws exact c is_cluster;
+  in_terms = in_terms laws exact c is_cluster;
+  distinct = (ranks laws exact c is_cluster).one;
+  nodes = exact.nodes;
+  node_itself = laws.ids_equal.refl;
+  intersects = itself_intersects laws.ids_equal exact.nodes c.configs is_cluster.has_config;
+}
+
+module _ {K N I L C D : Type 0} {ids : OrdMembers K} (node_eq : N → N → Bool) {kind : LeaderMembers L K C} {logs : OrdMembers C}
+    (laws : Laws ids kind logs) (exact : AreExact ids kind logs) (c : Cluster K L) (is_cluster : IsCluster kind c) where
+  -- a campaign of a server: its votes are its own, or were answered to it
+  record IsCampaign (w : World K N I L C D) (s : K) (x : Campaign K N L C) : Type 0 where
+    node : kind.voted x.vote.leader_id ≡ Some s
+    term : 0 < kind.term_of x.vote.leader_id
+    uncommitted : x.vote.committed ≡ false
+    configs : x.votes.membership.configs ≡ c.configs
+    votes : (r : K) → has_vote_of ids.eq x r ≡ true → (r ≡ s) ⊎ IsAmong (SeenVoted r x.vote) (seen_network w.network)
+
+  -- what every step keeps
+  record Holds (w : World K N I L C D) : Type 0 where
+    sound : (s : K) → IsSound logs.eq logs.cmp (w.servers s)
+    keys : (s : K) → may_be_keys logs.cmp (w.servers s).log_ids ≡ true
+    campaign : (s : K) (x : Campaign K N L C) → w.campaigns s ≡ Some x → IsCampaign w s x
+
+  abbrev Grows : World K N I L C D → World K N I L C D → Type 0
+  Grows w v = (x : SeenMessage L C K) → IsAmong x (seen_network w.network) → IsAmong x (seen_network v.network)
+
+  campaign_grows : (w v : World K N I L C D) → Grows w v → (s : K) (x : Campaign K N L C) → IsCampaign w s x → IsCampaign v s x
+  campaign_grows w v grows s x is = record {
+    node = is.node;
+    term = is.term;
+    uncommitted = is.uncommitted;
+    configs = is.configs;
+    votes = λ r yes. by r (is.votes r yes);
+  }
+    where
+      by : (r : K) → (r ≡ s) ⊎ IsAmong (SeenVoted r x.vote) (seen_network w.network)
+          → (r ≡ s) ⊎ IsAmong (SeenVoted r x.vote) (seen_network v.network)
+      by r (inl own) = inl own
+      by r (inr among) = inr (grows (SeenVoted r x.vote) among)
+
+  -- what a step of a server is, of views
+  record IsSeenStep (s : K) (w v : World K N I L C D) : Type 0 where
+    does : SeenDoes (viewed ids node_eq kind logs c) s (world_seen w) (world_seen v)
+    grows : Grows w v
+    campaign : (x : Campaign K N L C) → v.campaigns s ≡ Some x → IsCampaign v s x
+
+  module _ (s : K) (w v : World K N I L C D) (holds : Holds w) (sound' : IsSound logs.eq logs.cmp (v.servers s))
+      (keys' : may_be_keys logs.cmp (v.servers s).log_ids ≡ true) where
+    abbrev old : RaftStateIn K N I L C
+    old = w.servers s
+
+    abbrev new : RaftStateIn K N I L C
+    new = v.servers s
+
+    none_sent : v.network ≡ w.network → Grows w v
+    none_sent e x among = subst (λ (ms : List (Message K N L C D)). IsAmong x (seen_network ms)) (sym e) among
+
+    one_sent : (m : Message K N L C D) → v.network ≡ m ∷ w.network → Grows w v
+    one_sent m e x among =
+        subst (λ (ms : List (Message K N L C D)). IsAmong x (seen_network ms)) (sym e)
+        (among_second x (seen_message m) (seen_network w.network) among)
+
+    same_campaign : v.campaigns s ≡ w.campaigns s → Grows w v → (x : Campaign K N L C) → v.campaigns s ≡ Some x → IsCampaign v s x
+    same_campaign e grows x at = campaign_grows w v grows s x (holds.campaign s x (sym e ∙ at))
+
+    idle : seen (v.servers s) ≡ seen (w.servers s) → seen_network v.network ≡ seen_network w.network
+        → SeenDoes (viewed ids node_eq kind logs c) s (world_seen w) (world_seen v)
+    idle same sends = SeesIdle (record { call = same; sends = sends })
+
+    -- ---- requests
+
+    vote_seen : AnswersCandidate ids node_eq kind logs c s w v → IsSeenStep s w v
+    vote_seen d = record {
+      does = SeesVote (record {
+        vote = d.request.vote;
+        last = d.request.last_log_id;
+        granted = d.response.granted;
+        message = in_network (VoteAsked d.request) (SeenAsked d.request.vote d.request.last_log_id) w.network d.message (inl refl);
+        other = d.other;
+        call = λ h. record {
+          is_granted = d.call.granted;
+          taken = λ yes. ap seen (d.call.taken yes);
+          refused = λ no. ap seen (d.call.refused no);
+        };
+        sends = ap seen_network d.sends ∙ sent d.response.granted refl;
+      });
+      grows = one_sent (VoteAnswered s d.response) d.sends;
+      campaign = same_campaign d.campaign (one_sent (VoteAnswered s d.response) d.sends);
+    }
+      where
+        sent : (b : Bool) → d.response.granted ≡ b
+            → (if b then SeenVoted s d.response.vote ∷ [] else []) ++ seen_network w.network
+            ≡ (if b then SeenVoted s d.request.vote ∷ seen_network w.network else seen_network w.network)
+        sent true e =
+            let same : d.response.vote ≡ d.request.vote = d.call.answer ∙ ap vote_of (d.call.taken e) in
+            ap (λ (x : VoteIn L). SeenVoted s x ∷ seen_network w.network) same
+        sent false e = refl
+
+    append_seen : AnswersLeader ids node_eq kind logs c s w v → IsSeenStep s w v
+    append_seen d = record {
+      does = by d.outcome refl;
+      grows = one_sent (Answered s d.request.leader_id d.outcome) d.sends;
+      campaign = same_campaign d.campaign (one_sent (Answered s d.request.leader_id d.outcome) d.sends);
+    }
+      where
+        sent : (o : Outcome L C) → d.outcome ≡ o
+            → seen_network v.network ≡ seen_answer s d.request.leader_id o ++ seen_network w.network
+        sent o e =
+            ap seen_network d.sends
+            ∙ ap (λ (x : Outcome L C). seen_answer s d.request.leader_id x ++ seen_network w.network) e
+
+        answers : (o : Outcome L C) → d.outcome ≡ o → Answers logs ids.eq node_eq d.request o (w.servers s) (v.servers s)
+        answers o e = subst (λ (x : Outcome L C). Answers logs ids.eq node_eq d.request x (w.servers s) (v.servers s)) e d.answers
+
+        followed : (o : Outcome L C) → d.outcome ≡ o → ((x : VoteIn L) → o ≡ HigherVote x → ⊥)
+            → is_followed kind.order d.request.leader_id (w.servers s) ≡ true
+        followed o e apart =
+            followed_if (is_followed kind.order d.request.leader_id (w.servers s)) o (vote_of (w.servers s))
+            (λ no. sym e ∙ d.not_followed no) apart
+
+        by : (o : Outcome L C) → d.outcome ≡ o → SeenDoes (viewed ids node_eq kind logs c) s (world_seen w) (world_seen v)
+        by (Matches upto) e = SeesMatch (record {
+          leader = d.request.leader_id;
+          prev = d.request.prev;
+          ids = entry_ids d.request.entries.items;
+          committed = d.request.committed;
+          upto = upto;
+          message = in_network (EntriesSent d.request)
+              (SeenSent d.request.leader_id d.request.prev (entry_ids d.request.entries.items) d.request.committed) w.network d.message
+              (inl refl);
+          other = d.other;
+          whole = sound_is_whole logs.cmp logs.eq (w.servers s) (is_key_list logs.cmp (w.servers s).log_ids (holds.keys s)) (holds.sound s);
+          whole_after = sound_is_whole logs.cmp logs.eq (v.servers s) (is_key_list logs.cmp (v.servers s).log_ids keys') sound';
+          call = λ h. matches_seen ids node_eq kind logs _ (w.servers s) (v.servers s) d.request.leader_id d.request refl d.vote d.purged
+              (followed (Matches upto) e (λ x f. not_higher (Matches upto) x refl f)) upto (answers (Matches upto) e);
+          sends = sent (Matches upto) e;
+        })
+        by (Conflict at) e = SeesConflict (record {
+          leader = d.request.leader_id;
+          prev = d.request.prev;
+          ids = entry_ids d.request.entries.items;
+          committed = d.request.committed;
+          at = at;
+          message = in_network (EntriesSent d.request)
+              (SeenSent d.request.leader_id d.request.prev (entry_ids d.request.entries.items) d.request.committed) w.network d.message
+              (inl refl);
+          other = d.other;
+          whole = sound_is_whole logs.cmp logs.eq (w.servers s) (is_key_list logs.cmp (w.servers s).log_ids (holds.keys s)) (holds.sound s);
+          whole_after = sound_is_whole logs.cmp logs.eq (v.servers s) (is_key_list logs.cmp (v.servers s).log_ids keys') sound';
+          call = λ h. conflicts_seen ids node_eq kind logs _ (w.servers s) (v.servers s) d.request.leader_id d.request refl d.vote d.purged
+              (followed (Conflict at) e (λ x f. not_higher (Conflict at) x refl f)) at (answers (Conflict at) e);
+          sends = sent (Conflict at) e;
+        })
+        by (HigherVote vote) e = idle (ap seen (answers (HigherVote vote) e).1) (sent (HigherVote vote) e)
+
+    abbrev IsAnswer : InstallSnapshot L C K N → Outcome L C → Type 0
+    IsAnswer request o = AnswersSnapshot logs kind.eq (IsSnapshotCopy ids.eq node_eq) request.meta o
+        (heard kind.order request.leader_id (w.servers s)) (v.servers s)
+
+    snapshot_seen : AnswersSnapshotOf ids node_eq kind logs c s w v → IsSeenStep s w v
+    snapshot_seen d = record {
+      does = by d.outcome refl;
+      grows = one_sent (Answered s d.request.leader_id d.outcome) d.sends;
+      campaign = same_campaign d.campaign (one_sent (Answered s d.request.leader_id d.outcome) d.sends);
+    }
+      where
+        sent : (o : Outcome L C) → d.outcome ≡ o
+            → seen_network v.network ≡ seen_answer s d.request.leader_id o ++ seen_network w.network
+        sent o e =
+            ap seen_network d.sends
+            ∙ ap (λ (x : Outcome L C). seen_answer s d.request.leader_id x ++ seen_network w.network) e
+
+        -- a leader that is not followed changes nothing
+        unheard : (b : Bool) → b ≡ false → (record (w.servers s) {
+          vote = if b then utime_of (elected d.request.leader_id) (moment_of (w.servers s).vote) else (w.servers s).vote;
+        }) ≡ w.servers s
+        unheard false e = refl
+        unheard true e = absurd (true≢false e)
+
+        none_heard : (x : VoteIn L) → d.outcome ≡ HigherVote x → v.servers s ≡ heard kind.order d.request.leader_id (w.servers s)
+            → seen (v.servers s) ≡ seen (w.servers s)
+        none_heard x e same =
+            ap seen (same ∙ unheard (is_followed kind.order d.request.leader_id (w.servers s))
+            (subst (λ (o : Outcome L C). IfHigherVote o (λ _. is_followed kind.order d.request.leader_id
+            (w.servers s) ≡ false)) e d.followed))
+
+        by : (o : Outcome L C) → d.outcome ≡ o → SeenDoes (viewed ids node_eq kind logs c) s (world_seen w) (world_seen v)
+        by (Matches upto) e =
+            let answer : IsAnswer d.request (Matches upto) = subst (λ (x : Outcome L C). IsAnswer d.request x) e d.answers in
+            let follows : is_followed kind.order d.request.leader_id (w.servers s) ≡ true =
+            followed_if (is_followed kind.order d.request.leader_id (w.servers s)) (Matches upto) (vote_of (w.servers s))
+            (λ no. sym e ∙ d.not_followed no) (λ x f. not_higher (Matches upto) x refl f) in
+            SeesSnapshot (record {
+              leader = d.request.leader_id;
+              upto = d.upto;
+              message = in_network (SnapshotSent d.request) (SeenSnapshot d.request.leader_id d.upto) w.network d.message
+                  (sees d.request.meta.last_log_id d.is_upto);
+              other = d.other;
+              whole = sound_is_whole logs.cmp logs.eq (w.servers s) (is_key_list logs.cmp (w.servers s).log_ids (holds.keys s))
+                  (holds.sound s);
+              call = λ h. installs_seen node_eq laws exact.committed _ (w.servers s)
+                  (v.servers s) d.request.leader_id d.request.meta d.upto d.is_upto
+                  (is_key_list logs.cmp (w.servers s).log_ids (holds.keys s)) (holds.sound s) follows d.allowed answer.1;
+              sends = sent (Matches upto) e
+                  ∙ ap (λ (x : Option (LogIdOf C)). SeenMatched s d.request.leader_id x ∷ seen_network w.network) (answer.0 ∙ d.is_upto);
+            })
+          where
+            sees : (o : Option (LogIdOf C)) → o ≡ Some d.upto → IsAmong (SeenSnapshot d.request.leader_id d.upto)
+                (seen_snapshot {K = K} d.request.leader_id o)
+            sees None e = cc
+            sees (Some x) e = inl (ap (λ (y : LogIdOf C). SeenSnapshot d.request.leader_id y) (sym (some_same x d.upto e)))
+        by (Conflict at) e = absurd (subst (λ (x : Outcome L C). IsAnswer d.request x) e d.answers)
+        by (HigherVote x) e =
+            idle (none_heard x e (subst (λ (y : Outcome L C). IsAnswer d.request y) e d.answers).1) (sent (HigherVote x) e)
+
+    -- ---- a campaign
+
+    campaign_seen : StartsCampaign ids node_eq kind logs c s w v → IsSeenStep s w v
+    campaign_seen d = record {
+      does = SeesCampaign (record {
+        leader = d.made.vote.leader_id;
+        in_use = inr d.in_use;
+        is_own = node;
+        term = term;
+        above = greater_leader kind.order d.made.vote (vote_of (w.servers s)) uncommitted d.call.is_greater;
+        call = same_state (seen (v.servers s)) (record (seen
+            (w.servers s)) { vote = record { leader_id = d.made.vote.leader_id; committed = false } })
+            (ap vote_of d.call.promised ∙ is_vote) (ap (λ (x : RaftStateIn K N I L C). full_log x.log_ids) d.call.promised)
+            (ap (λ (x : RaftStateIn K N I L C). x.purged_next) d.call.promised)
+            (ap (λ (x : RaftStateIn K N I L C). x.committed) d.call.promised);
+        sends = ap seen_network d.sends
+            ∙ ap (λ (x : VoteIn L). SeenAsked x d.made.last_log_id ∷ seen_network w.network) is_vote
+            ∙ ap (λ (x : Option (LogIdOf C)). SeenAsked
+            (record { leader_id = d.made.vote.leader_id; committed = false }) x ∷ seen_network w.network)
+            d.call.last;
+      });
+      grows = one_sent (VoteAsked (record { vote = d.made.vote; last_log_id = d.made.last_log_id })) d.sends;
+      campaign = λ x at. subst (λ (y : Campaign K N L C). IsCampaign v s y) (some_same d.made x (sym d.campaign ∙ at)) is;
+    }
+      where
+        next_term : ℕ
+        next_term = max d.greatest_term (kind.term_of (vote_of (w.servers s)).leader_id) + 1
+
+        leader_is : d.made.vote.leader_id ≡ kind.leader_of next_term s
+        leader_is = ap (λ (x : VoteIn L). x.leader_id) d.call.vote
+
+        uncommitted : d.made.vote.committed ≡ false
+        uncommitted = ap (λ (x : VoteIn L). x.committed) d.call.vote
+
+        is_vote : d.made.vote ≡ record { leader_id = d.made.vote.leader_id; committed = false }
+        is_vote = same_votes d.made.vote (record { leader_id = d.made.vote.leader_id; committed = false }) refl uncommitted
+
+        node : kind.voted d.made.vote.leader_id ≡ Some s
+        node = ap kind.voted leader_is ∙ (laws.made next_term s).1
+
+        term : 0 < kind.term_of d.made.vote.leader_id
+        term = let t : kind.term_of d.made.vote.leader_id ≡ next_term = ap kind.term_of leader_is ∙ (laws.made next_term s).0 in
+            omega (arith, t)
+
+        is : IsCampaign v s d.made
+        is = record {
+          node = node;
+          term = term;
+          uncommitted = uncommitted;
+          configs = d.call.configs ∙ d.fixed;
+          votes = λ r yes. inl (sym (exact.nodes s r (and_parts _ _ (sym (d.call.own_vote r) ∙ yes)).0));
+        }
+
+    count_seen : CountsVote ids node_eq kind logs c s w v → IsSeenStep s w v
+    count_seen d = record {
+      does = idle (ap seen d.state) (ap seen_network d.sends);
+      grows = none_sent d.sends;
+      campaign = λ x at. subst (λ (y : Campaign K N L C). IsCampaign v s y) (some_same d.after x (sym d.campaign ∙ at)) is;
+    }
+      where
+        before : IsCampaign w s d.before
+        before = holds.campaign s d.before d.campaign_before
+
+        same_vote : d.after.vote ≡ d.before.vote
+        same_vote = ap (λ (x : Campaign K N L C). x.vote) d.call.rest
+
+        own_answer : IsAmong (SeenVoted d.from d.before.vote) (seen_network w.network)
+        own_answer =
+            in_network (VoteAnswered d.from d.response) (SeenVoted d.from d.before.vote) w.network d.message
+            (sees d.response.granted d.granted)
+          where
+            sees : (b : Bool) → b ≡ true
+                → IsAmong {X = SeenMessage L C K} (SeenVoted d.from d.before.vote)
+                (if b then SeenVoted d.from d.response.vote ∷ [] else [])
+            sees true e = inl (ap (λ (x : VoteIn L). SeenVoted d.from x) (sym d.for_this))
+            sees false e = absurd (false≢true e)
+
+        voted : (r : K) (b : Bool) → has_vote_of ids.eq d.before r ≡ b
+            → (b || (ids.eq d.from r && is_counted ids.eq d.before d.from)) ≡ true
+            → (r ≡ s) ⊎ IsAmong (SeenVoted r d.before.vote) (seen_network w.network)
+        voted r true e h = before.votes r e
+        voted r false e h =
+            let same : d.from ≡ r = exact.nodes d.from r (and_parts (ids.eq d.from r) (is_counted ids.eq d.before d.from) h).0 in
+            inr (subst (λ (x : K). IsAmong (SeenVoted x d.before.vote) (seen_network w.network)) same own_answer)
+
+        is : IsCampaign v s d.after
+        is = record {
+          node = ap (λ (x : VoteIn L). kind.voted x.leader_id) same_vote ∙ before.node;
+          term = (let t : kind.term_of d.after.vote.leader_id ≡ kind.term_of d.before.vote.leader_id =
+              ap (λ (x : VoteIn L). kind.term_of x.leader_id) same_vote in
+              let past = before.term in omega (arith, t, past));
+          uncommitted = ap (λ (x : VoteIn L). x.committed) same_vote ∙ before.uncommitted;
+          configs = ap (λ m. m.configs) d.call.members ∙ before.configs;
+          votes = λ r yes. kept r (voted r (has_vote_of ids.eq d.before r) refl (sym (d.call.counted r) ∙ yes));
+        }
+          where
+            kept : (r : K) → (r ≡ s) ⊎ IsAmong (SeenVoted r d.before.vote) (seen_network w.network)
+                → (r ≡ s) ⊎ IsAmong (SeenVoted r d.after.vote) (seen_network v.network)
+            kept r (inl own) = inl own
+            kept r (inr among) =
+                inr (none_sent d.sends (SeenVoted r d.after.vote)
+                (subst (λ (x : VoteIn L). IsAmong (SeenVoted r x) (seen_network w.network)) (sym same_vote) among))
+
+    -- ---- a leader
+
+    same_voted : (o : Option K) (n : K) → option_eq ids.eq o (Some n) ≡ true → o ≡ Some n
+    same_voted None n h = cc
+    same_voted (Some m) n h = ap (λ (x : K). Some x) (exact.nodes m n h)
+
+    election_seen : IsElectedLeader ids node_eq kind logs c s w v → IsSeenStep s w v
+    election_seen d = record {
+      does = SeesElection (record {
+        is_own = ap kind.voted leader_is ∙ is.node;
+        term = (let t : kind.term_of (vote_of (w.servers s)).leader_id ≡ kind.term_of d.candidate.vote.leader_id =
+            ap kind.term_of leader_is in
+            let past = is.term in omega (arith, t, past));
+        not_yet = beq_is (vote_of (w.servers s)).committed d.candidate.vote.committed same.1 ∙ is.uncommitted;
+        counts = has_vote_of ids.eq d.candidate;
+        votes = λ r yes. by r (is.votes r yes);
+        majority = ap (λ (m : List (List K)). is_joint_majority ids.eq m (has_vote_of ids.eq d.candidate)) (sym is.configs)
+            ∙ d.call.elected.majority;
+        call = ap seen d.call.committed;
+        sends = ap seen_network d.sends;
+      });
+      grows = none_sent d.sends;
+      campaign = same_campaign d.campaign (none_sent d.sends);
+    }
+      where
+        is : IsCampaign w s d.candidate
+        is = holds.campaign s d.candidate d.campaign_before
+
+        same : (kind.eq (vote_of (w.servers s)).leader_id d.candidate.vote.leader_id ≡ true)
+            × (beq (vote_of (w.servers s)).committed d.candidate.vote.committed ≡ true)
+        same = and_parts _ _ d.call.vote
+
+        leader_is : (vote_of (w.servers s)).leader_id ≡ d.candidate.vote.leader_id
+        leader_is = exact.leaders (vote_of (w.servers s)).leader_id d.candidate.vote.leader_id same.0
+
+        vote_is : vote_of (w.servers s) ≡ d.candidate.vote
+        vote_is =
+            same_votes (vote_of (w.servers s)) d.candidate.vote leader_is
+            (beq_is (vote_of (w.servers s)).committed d.candidate.vote.committed same.1)
+
+        by : (r : K) → (r ≡ s) ⊎ IsAmong (SeenVoted r d.candidate.vote) (seen_network w.network)
+            → (r ≡ s) ⊎ IsAmong (SeenVoted r (vote_of (w.servers s))) (seen_network w.network)
+        by r (inl own) = inl own
+        by r (inr among) = inr (subst (λ (x : VoteIn L). IsAmong (SeenVoted r x) (seen_network w.network)) (sym vote_is) among)
+
+    -- what it means to lead
+    module _ (leader : Leadership K N C) (leads : Leads ids node_eq kind logs c s w v leader) where
+      leads_parts : (((vote_of (w.servers s)).committed ≡ true)
+          × (logs.eq (kind.committed (vote_of (w.servers s)).leader_id) leader.leader_id ≡ true))
+          × (option_eq ids.eq (kind.voted (vote_of (w.servers s)).leader_id) (Some leader.id) ≡ true)
+      leads_parts = let all = and_parts _ _ leads.leads in (and_parts _ _ all.0, all.1)
+
+      leads_committed : (vote_of (w.servers s)).committed ≡ true
+      leads_committed = leads_parts.0.0
+
+      leads_own : kind.voted (vote_of (w.servers s)).leader_id ≡ Some s
+      leads_own =
+          same_voted (kind.voted (vote_of (w.servers s)).leader_id) leader.id leads_parts.1
+          ∙ ap (λ (x : K). Some x) leads.node
+
+      leads_id : kind.committed (vote_of (w.servers s)).leader_id ≡ leader.leader_id
+      leads_id = exact.committed (kind.committed (vote_of (w.servers s)).leader_id) leader.leader_id leads_parts.0.1
+
+      leads_term : 0 < kind.term_of (vote_of (w.servers s)).leader_id
+      leads_term = is_cluster.later (vote_of (w.servers s)).leader_id leads.in_use
+
+    proposal_seen : Proposes ids node_eq kind logs c s w v → IsSeenStep s w v
+    proposal_seen d = record {
+      does = SeesWrite (record {
+        leads = record {
+          is_own = leads_own d.leader d.leads;
+          term = leads_term d.leader d.leads;
+          is_committed = leads_committed d.leader d.leads;
+        };
+        last = d.started.0;
+        is_last = d.started.1;
+        content = tt;
+        call = same_state (seen (v.servers s)) (record (seen (w.servers s)) {
+          ids = full_log (w.servers s).log_ids ++ (record {
+            leader_id = kind.committed (vote_of (w.servers s)).leader_id;
+            index = suc d.started.0.index;
+          }) ∷ [];
+        }) (ap vote_of d.call.rest) log_is (ap (λ (x : RaftStateIn K N I L C). x.purged_next) d.call.rest)
+            (ap (λ (x : RaftStateIn K N I L C). x.committed) d.call.rest);
+        sends = ap seen_network d.sends;
+      });
+      grows = none_sent d.sends;
+      campaign = same_campaign d.campaign (none_sent d.sends);
+    }
+      where
+        own : C → ℕ → LogIdOf C
+        own leader index = record { leader_id = leader; index = index }
+
+        end_is : next_index (last_id (full_log (w.servers s).log_ids)) ≡ suc d.started.0.index
+        end_is = ap next_index d.started.1 ∙ (let n : d.started.0.index + 1 ≡ suc d.started.0.index = omega arith in n)
+
+        log_is : full_log (v.servers s).log_ids
+            ≡ full_log (w.servers s).log_ids ++ (record {
+              leader_id = kind.committed (vote_of (w.servers s)).leader_id;
+              index = suc d.started.0.index;
+            }) ∷ []
+        log_is =
+            same_logs logs.eq exact.committed _ _ (says_same logs.eq _ _ d.call.log)
+            ∙ ap (λ (n : ℕ). full_log (w.servers s).log_ids ++ own d.leader.leader_id n ∷ []) end_is
+            ∙ ap (λ (x : C). full_log (w.servers s).log_ids ++ own x (suc d.started.0.index) ∷ []) (sym (leads_id d.leader d.leads))
+
+    send_seen : SendsEntries ids node_eq kind logs c s w v → IsSeenStep s w v
+    send_seen d = record {
+      does = SeesSend (record {
+        leads = record {
+          is_own = leads_own d.leader d.leads;
+          term = leads_term d.leader d.leads;
+          is_committed = leads_committed d.leader d.leads;
+        };
+        prev = d.request.prev;
+        ids = entry_ids d.request.entries.items;
+        has_prev = d.prev;
+        has_ids = λ x among. by x (from_map (λ (e : EntryOf C K N D). e.log_id) x d.request.entries.items among);
+        has_committed = committed_found node_eq laws exact.committed (w.servers s) (holds.sound s);
+        call = ap seen d.state;
+        sends = ap seen_network d.sends
+            ∙ ap (λ (x : L). SeenSent x d.request.prev (entry_ids d.request.entries.items) d.request.committed ∷ seen_network w.network)
+            d.is_own
+            ∙ ap (λ (x : Option (LogIdOf C)). SeenSent (vote_of (w.servers s)).leader_id d.request.prev
+            (entry_ids d.request.entries.items) x ∷ seen_network w.network) d.committed;
+      });
+      grows = one_sent (EntriesSent d.request) d.sends;
+      campaign = same_campaign d.campaign (one_sent (EntriesSent d.request) d.sends);
+    }
+      where
+        by : (x : LogIdOf C) → ((e : EntryOf C K N D) × IsAmong e d.request.entries.items × (x ≡ e.log_id))
+            → id_at (full_log (w.servers s).log_ids) x.index ≡ Some x
+        by x (e, among, same) =
+            subst (λ (y : LogIdOf C). id_at (full_log (w.servers s).log_ids) y.index ≡ Some y) (sym same) (d.entries e among)
+
+    send_snapshot_seen : SendsSnapshot ids node_eq kind logs c s w v → IsSeenStep s w v
+    send_snapshot_seen d = record {
+      does = SeesSendSnapshot (record {
+        leads = record {
+          is_own = leads_own d.leader d.leads;
+          term = leads_term d.leader d.leads;
+          is_committed = leads_committed d.leader d.leads;
+        };
+        upto = d.upto;
+        logged = d.logged;
+        is_committed = (let lt = d.is_committed in omega (arith, lt));
+        call = ap seen d.state;
+        sends = ap seen_network d.sends ∙ ap (λ (x : List (SeenMessage L C K)). x ++ seen_network w.network) sees;
+      });
+      grows = one_sent (SnapshotSent d.request) d.sends;
+      campaign = same_campaign d.campaign (one_sent (SnapshotSent d.request) d.sends);
+    }
+      where
+        sees : seen_snapshot {K = K} d.request.leader_id d.request.meta.last_log_id
+            ≡ SeenSnapshot (vote_of (w.servers s)).leader_id d.upto ∷ []
+        sees =
+            ap (λ (o : Option (LogIdOf C)). seen_snapshot {K = K} d.request.leader_id o) d.is_upto
+            ∙ ap (λ (x : L). SeenSnapshot x d.upto ∷ []) d.is_own
+
+    commit_seen : CommitsGranted ids node_eq kind logs c s w v → IsSeenStep s w v
+    commit_seen d = record {
+      does = by d.more refl;
+      grows = none_sent d.sends;
+      campaign = same_campaign d.campaign (none_sent d.sends);
+    }
+      where
+        matching : K → Option (LogIdOf C)
+        matching r = match_of (entry_of ids.eq d.leader r)
+
+        by : (b : Bool) → d.more ≡ b → SeenDoes (viewed ids node_eq kind logs c) s (world_seen w) (world_seen v)
+        by false e =
+            idle (ap seen (d.call.committed ∙ pick d.more e)) (ap seen_network d.sends)
+          where
+            pick : (b : Bool) → b ≡ false → (if b then state_after_commit logs.cmp (granted_by d.leader) (w.servers s) else w.servers s)
+                ≡ w.servers s
+            pick false f = refl
+            pick true f = absurd (true≢false f)
+        by true e = due (granted_by d.leader) refl
+          where
+            all : (is_of_leader logs.eq d.leader.leader_id (granted_by d.leader) ≡ true)
+                × (id_lt logs.cmp (w.servers s).committed (granted_by d.leader) ≡ true)
+            all = and_parts _ _ (sym d.call.answer ∙ e)
+
+            due : (o : Option (LogIdOf C)) → granted_by d.leader ≡ o
+                → SeenDoes (viewed ids node_eq kind logs c) s (world_seen w) (world_seen v)
+            due None f = absurd (false≢true (ap (λ (o : Option (LogIdOf C)). is_of_leader logs.eq d.leader.leader_id o) (sym f) ∙ all.0))
+            due (Some granted) f = SeesCommit (record {
+              leads = record {
+                is_own = leads_own d.leader d.leads;
+                term = leads_term d.leader d.leads;
+                is_committed = leads_committed d.leader d.leads;
+              };
+              granted = granted;
+              logged = exact_found logs.eq exact.committed (id_at (full_log (w.servers s).log_ids) granted.index) granted
+                  (subst (λ (o : Option (LogIdOf C)). none_or_logged logs.eq (log_view_of (w.servers s)) o ≡ true) f (d.call.logged e));
+              own = exact.committed granted.leader_id d.leader.leader_id
+                  (ap (λ (o : Option (LogIdOf C)). is_of_leader logs.eq d.leader.leader_id o) (sym f) ∙ all.0)
+                  ∙ sym (leads_id d.leader d.leads);
+              matching = matching;
+              true_matches = λ r m at. is_true r m (entry_of ids.eq d.leader r) refl at;
+              majority = counted ∙ major.majority;
+              call = same_state (seen (v.servers s)) (record (seen (w.servers s)) { committed = Some granted })
+                  (ap vote_of state_is) (ap (λ (x : RaftStateIn K N I L C). full_log x.log_ids) state_is)
+                  (ap (λ (x : RaftStateIn K N I L C). x.purged_next) state_is) (d.call.is_granted e ∙ f);
+              sends = ap seen_network d.sends;
+            })
+              where
+                itself : id_le logs.cmp (Some granted) (Some granted) ≡ true
+                itself = AtMost-refl (optional-log_id_cmp-total laws.total) (Some granted)
+
+                major : MajorityMatches ids.eq logs.cmp d.leader granted
+                major =
+                    (d.call.greatest granted).0
+                    (subst (λ (o : Option (LogIdOf C)). id_le logs.cmp (Some granted) o ≡ true) (sym f) itself)
+
+                passes : (o : Option (ProgressEntryOf C)) → id_le logs.cmp (Some granted) (match_of o)
+                    ≡ option_map_or (λ (x : ProgressEntryOf C). id_le logs.cmp (Some granted) x.matching) o false
+                passes None = refl
+                passes (Some x) = refl
+
+                counted : is_joint_majority ids.eq c.configs (λ r. id_le logs.cmp (Some granted) (matching r))
+                    ≡ is_joint_majority ids.eq d.leader.followers.membership.configs
+                    (λ r. option_map_or (λ (x : ProgressEntryOf C). id_le logs.cmp (Some granted) x.matching)
+                    (entry_of ids.eq d.leader r) false)
+                counted =
+                    ap (λ (m : List (List K)). is_joint_majority ids.eq m (λ r. id_le logs.cmp (Some granted) (matching r))) (sym d.fixed)
+                    ∙ ap (λ (f : K → Bool). is_joint_majority ids.eq d.leader.followers.membership.configs f)
+                    (λ i r. passes (entry_of ids.eq d.leader r) i)
+
+                is_true : (r : K) (m : LogIdOf C) (o : Option (ProgressEntryOf C)) → entry_of ids.eq d.leader r ≡ o → match_of o ≡ Some m
+                    → ((r ≡ s) × (id_at (full_log (w.servers s).log_ids) m.index ≡ Some m))
+                    ⊎ IsAmong (SeenMatched r (vote_of (w.servers s)).leader_id (Some m)) (seen_network w.network)
+                is_true r m None g at = cc
+                is_true r m (Some x) g at = answered (d.true_matches r x m g at)
+                  where
+                    answered : ((r ≡ s) × (id_at (full_log (w.servers s).log_ids) m.index ≡ Some m))
+                        ⊎ IsAmong (Answered r (vote_of (w.servers s)).leader_id (Matches (Some m))) w.network
+                        → ((r ≡ s) × (id_at (full_log (w.servers s).log_ids) m.index ≡ Some m))
+                        ⊎ IsAmong (SeenMatched r (vote_of (w.servers s)).leader_id (Some m)) (seen_network w.network)
+                    answered (inl own) = inl own
+                    answered (inr among) =
+                        inr (in_network (Answered r (vote_of (w.servers s)).leader_id (Matches (Some m)))
+                        (SeenMatched r (vote_of (w.servers s)).leader_id (Some m)) w.network among (inl refl))
+
+                state_is : v.servers s ≡ record (w.servers s) {
+                  committed = granted_by d.leader;
+                  membership_state = after_commit logs.cmp (granted_by d.leader) (w.servers s).membership_state;
+                }
+                state_is = d.call.committed ∙ pick d.more e (id_lt logs.cmp (w.servers s).committed (granted_by d.leader)) all.1
+                  where
+                    pick : (a : Bool) → a ≡ true → (b : Bool) → b ≡ true → (if a then (if b
+                        then record (w.servers s) {
+                          committed = granted_by d.leader;
+                          membership_state = after_commit logs.cmp (granted_by d.leader) (w.servers s).membership_state;
+                        } else w.servers s) else w.servers s) ≡ record (w.servers s) {
+                          committed = granted_by d.leader;
+                          membership_state = after_commit logs.cmp (granted_by d.leader) (w.servers s).membership_state;
+                        }
+                    pick true x true y = refl
+                    pick true x false y = absurd (false≢true y)
+                    pick false x b y = absurd (false≢true x)
+
+    -- ---- a restart, and a purge
+
+    restart_seen : Restarts ids node_eq kind logs c s w v → IsSeenStep s w v
+    restart_seen d = record {
+      does = SeesRestart (record {
+        known = (v.servers s).committed;
+        no_more = d.no_more;
+        call = same_state (seen (v.servers s)) (record (seen (w.servers s)) {
+          committed =
+              (v.servers s).committed;
+        }) d.same_vote d.log d.purged refl;
+        sends = ap seen_network d.sends;
+      });
+      grows = none_sent d.sends;
+      campaign = λ x at. absurd (none_there x (sym d.campaign ∙ at));
+    }
+      where
+        none_there : (x : Campaign K N L C) → None ≡ Some x → ⊥
+        none_there x e = cc
+
+    purge_seen : Purges ids node_eq kind logs c s w v → IsSeenStep s w v
+    purge_seen d = record {
+      does = SeesPurge (record {
+        next = (v.servers s).purged_next;
+        left = full_log (v.servers s).log_ids;
+        is_committed = d.is_committed;
+        same_end = d.same_end;
+        kept = d.kept;
+        call = same_state (seen (v.servers s)) (record (seen (w.servers s)) {
+          ids = full_log (v.servers s).log_ids;
+          purged_next = (v.servers s).purged_next;
+        }) d.vote refl refl d.committed;
+        sends = ap seen_network d.sends;
+      });
+      grows = none_sent d.sends;
+      campaign = same_campaign d.campaign (none_sent d.sends);
+    }
+
+    does_seen : DoesOne ids node_eq kind logs c s w v → IsSeenStep s w v
+    does_seen (OneVote d) = vote_seen d
+    does_seen (OneAppend d) = append_seen d
+    does_seen (OneSnapshot d) = snapshot_seen d
+    does_seen (OneCampaign d) = campaign_seen d
+    does_seen (OneCount d) = count_seen d
+    does_seen (OneElection d) = election_seen d
+    does_seen (OneProposal d) = proposal_seen d
+    does_seen (OneSend d) = send_seen d
+    does_seen (OneSendSnapshot d) = send_snapshot_seen d
+    does_seen (OneCommit d) = commit_seen d
+    does_seen (OneRestart d) = restart_seen d
+    does_seen (OnePurge d) = purge_seen d
+
+  -- ---- runs
+
+  record StepIsSeen (w v : World K N I L C D) : Type 0 where
+    step : SeenStep (viewed ids node_eq kind logs c) (world_seen w) (world_seen v)
+    holds : Holds v
+
+  step_seen : (w v : World K N I L C D) → Holds w → Step ids node_eq kind logs c w v → StepIsSeen w v
+  step_seen w v holds st = record {
+    step = record { server = st.server; does = is.does; others = λ r e. ap seen (st.others r e) };
+    holds = record {
+      sound = λ r. sound r (ids.eq st.server r) refl;
+      keys = λ r. keys r (ids.eq st.server r) refl;
+      campaign = λ r. campaign r (ids.eq st.server r) refl;
+    };
+  }
+    where
+      is : IsSeenStep st.server w v
+      is = does_seen st.server w v holds (st.sound (holds.sound st.server)) st.keys st.does
+
+      sound : (r : K) (b : Bool) → ids.eq st.server r ≡ b → IsSound logs.eq logs.cmp (v.servers r)
+      sound r true e =
+          subst (λ (x : K). IsSound logs.eq logs.cmp (v.servers x)) (exact.nodes st.server r e) (st.sound (holds.sound st.server))
+      sound r false e = subst (λ (x : RaftStateIn K N I L C). IsSound logs.eq logs.cmp x) (sym (st.others r e)) (holds.sound r)
+
+      keys : (r : K) (b : Bool) → ids.eq st.server r ≡ b → may_be_keys logs.cmp (v.servers r).log_ids ≡ true
+      keys r true e = subst (λ (x : K). may_be_keys logs.cmp (v.servers x).log_ids ≡ true) (exact.nodes st.server r e) st.keys
+      keys r false e =
+          subst (λ (x : RaftStateIn K N I L C). may_be_keys logs.cmp x.log_ids ≡ true) (sym (st.others r e)) (holds.keys r)
+
+      campaign : (r : K) (b : Bool) → ids.eq st.server r ≡ b → (x : Campaign K N L C) → v.campaigns r ≡ Some x → IsCampaign v r x
+      campaign r true e =
+          subst (λ (y : K). (x : Campaign K N L C) → v.campaigns y ≡ Some x → IsCampaign v y x) (exact.nodes st.server r e) is.campaign
+      campaign r false e = λ x at.
+          campaign_grows w v is.grows r x (holds.campaign r x (sym (st.other_campaigns r e) ∙ at))
+
+  first_seen : (w : World K N I L C D) → IsFirst ids node_eq kind logs c w → IsSeenFirst (viewed ids node_eq kind logs c) (world_seen w)
+  first_seen w f = record {
+    in_use = λ s. inl (ap (λ (x : VoteIn L). x.leader_id) (f.vote s));
+    no_vote = λ s. ap (λ (x : VoteIn L). kind.term_of x.leader_id) (f.vote s) ∙ is_cluster.start_term;
+    ids = f.log;
+    purged = λ s. (let z = f.purged s in omega (arith, z));
+    committed = f.committed;
+    sent = ap seen_network f.nothing_sent;
+  }
+
+  first_holds : (w : World K N I L C D) → IsFirst ids node_eq kind logs c w → Holds w
+  first_holds w f = record {
+    sound = f.sound;
+    keys = f.keys;
+    campaign = λ s x at. absurd (none_there x (sym (f.no_campaign s) ∙ at));
+  }
+    where
+      none_there : (x : Campaign K N L C) → None ≡ Some x → ⊥
+      none_there x e = cc
+
+  record RunIsSeen (w : World K N I L C D) (ws : List (World K N I L C D)) : Type 0 where
+    run : IsSeenRun (viewed ids node_eq kind logs c) (world_seen w) (map world_seen ws)
+    holds : Holds w
+
+  run_seen : (w : World K N I L C D) (ws : List (World K N I L C D)) → IsRun ids node_eq kind logs c w ws → RunIsSeen w ws
+  run_seen w [] f = record { run = first_seen w f; holds = first_holds w f }
+  run_seen w (v ∷ vs) run =
+      let before = run_seen v vs run.1 in
+      let st = step_seen v w before.holds run.0 in
+      record { run = (st.step, before.run); holds = st.holds }
+
+  agree : (w : World K N I L C D) (ws : List (World K N I L C D)) → IsRun ids node_eq kind logs c w ws → (u v : World K N I L C D)
+      → IsAmong u (w ∷ ws) → IsAmong v (w ∷ ws) → CommittedAgree u v
+  agree w ws run u v in_u in_v s r i x y low low' at at' =
+      let same = runs_are_safe (viewed ids node_eq kind logs c) (is_viewed node_eq laws exact c is_cluster) (λ d. refl)
+      (inl refl) (not_first laws exact c is_cluster) (world_seen w)
+      (map world_seen ws) (run_seen w ws run).run (world_seen u) (world_seen v) (among_mapped world_seen u (w ∷ ws) in_u)
+      (among_mapped world_seen v (w ∷ ws) in_v) s r i x y low low' at at' in
+      let a = index_found (full_log (u.servers s).log_ids) i x at in
+      let b = index_found (full_log (v.servers r).log_ids) i y at' in
+      let n : x.index ≡ y.index = a ∙ sym b in
+      λ j. record { leader_id = same j; index = n j }
+
+pub are_safe : {K N L C : Type 0} (I D : Type 0) {ids : OrdMembers K} (node_eq : N → N → Bool) {kind : LeaderMembers L K C}
+    {logs : OrdMembers C} → Laws ids kind logs → RunsAreSafe I D ids node_eq kind logs
+are_safe I D node_eq laws exact_ids exact_leaders exact_logs c is_cluster w ws run u v in_u in_v =
+    agree node_eq laws (record { nodes = exact_ids; leaders = exact_leaders; committed = exact_logs }) c is_cluster w ws run u v in_u in_v

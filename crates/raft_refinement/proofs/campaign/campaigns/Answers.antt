@@ -1,0 +1,46 @@
+use Rattle.raft_handlers.specs.Compared.{LeaderMembers}
+use Rattle.raft_progress.specs.progress.Comparisons.{OrdMembers}
+use Rattle.raft_refinement.specs.Seen.{seen}
+use Rattle.raft_refinement.specs.Server.{IsInHistory, Leaders}
+use Rattle.std.specs.Prelude.{◌≡◌}
+use Rattle.raft_refinement.proofs.WrapperLemmas.{campaigns_by_rule}
+use Rattle.raft_refinement.proofs.campaign.campaigns.Goals as goal
+
+pub returns : goal.returns
+returns g c =
+    let k : Leaders _ _ _ = record {
+      order = g.L.LeaderIdentity.order;
+      term_of = g.L.LeaderIdentity.term_of;
+      voted = g.L.LeaderIdentity.voted;
+      committed = g.L.LeaderIdentity.committed;
+      cmp = g.C.Ord.cmp;
+      eq = g.C.PartialEq.eq;
+    } in
+    let is : IsInHistory k g.p (seen c.args.state.now) = assumption (c.requires) in
+    let own : c.args.id ≡ g.p.server = assumption (c.requires) in
+    let ids : OrdMembers _ = record {
+      partial_cmp = g.NID.PartialOrd.partial_cmp;
+      eq = g.NID.PartialEq.eq;
+      cmp = g.NID.Ord.cmp;
+    } in
+    let logs : OrdMembers _ = record {
+      partial_cmp = g.C.PartialOrd.partial_cmp;
+      eq = g.C.PartialEq.eq;
+      cmp = g.C.Ord.cmp;
+    } in
+    let kind : LeaderMembers _ _ _ = record {
+      is_default = g.L.Default.is_default;
+      eq = g.L.PartialEq.eq;
+      order = g.L.LeaderIdentity.order;
+      term_of = g.L.LeaderIdentity.term_of;
+      voted = g.L.LeaderIdentity.voted;
+      committed = g.L.LeaderIdentity.committed;
+      leader_of = g.L.LeaderIdentity.leader_of;
+      committed_of = g.L.LeaderIdentity.committed_of;
+      same_as = g.L.LeaderIdentity.same_as;
+    } in
+    record {
+      by_rule = campaigns_by_rule ids g.N.PartialEq.eq kind logs g.p c.args.state.now c.campaign.new.state c.args.id own
+          c.args.greatest_term is
+          g.met.L.LeaderIdentity.made c.campaign.result c.campaign.ensures.campaigns;
+    }

@@ -1,0 +1,6 @@
+pub mod Server
+pub mod Seen
+pub mod Voting
+pub mod Appending
+pub mod Electing
+pub mod Running

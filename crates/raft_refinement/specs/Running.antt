@@ -1,0 +1,306 @@
+-- Runs of servers that change their states only as the contracts of raft_handlers say, over a network
+-- that may lose, delay, duplicate and reorder messages. The members are fixed. Servers crash and
+-- restart, purge their logs, and install snapshots.
+--
+-- Each handler has a step. A step has the record that the handler's contract promises of the state
+-- before and after the call, the message that the handler takes from the network, and the message that
+-- the server sends afterwards. A step is whole before its message is sent: what it changes is on disk.
+use Rattle.std.specs.Prelude.{◌≡◌, ◌⊎◌, ◌<◌, ◌≤◌, ℕ, Bool, true, false, List, [], ◌∷◌, length, Option, Some, None, IsTrue}
+use Rattle.raft_base.specs.declared.log_id.LogIdOf.{LogIdOf}
+use Rattle.raft_base.specs.LogId.{next_index}
+use Rattle.raft_handlers.specs.Append.{Answers, IfHigherVote}
+use Rattle.raft_handlers.specs.Campaign.{Campaign, Campaigns, CountsVoteOf}
+use Rattle.raft_handlers.specs.Compared.{LeaderMembers, compared}
+use Rattle.raft_handlers.specs.Follow.{heard, is_followed, vote_heard}
+use Rattle.raft_handlers.specs.Leadership.{BecomesLeader, Commits, Leadership, entry_of, is_leading}
+use Rattle.raft_handlers.specs.Proposals.{AppendsOwn}
+use Rattle.raft_handlers.specs.Snapshot.{AnswersSnapshot, snapshot_refusal}
+use Rattle.raft_handlers.specs.Vote.{Grants}
+use Rattle.raft_handlers.specs.declared.message.AppendEntries.{AppendEntries}
+use Rattle.raft_handlers.specs.declared.message.InstallSnapshot.{InstallSnapshot}
+use Rattle.raft_handlers.specs.declared.message.Outcome.{Outcome}
+use Rattle.raft_handlers.specs.declared.message.Outcome.TheVariants.{HigherVote, Matches}
+use Rattle.raft_handlers.specs.declared.message.VoteRequest.{VoteRequest}
+use Rattle.raft_handlers.specs.declared.message.VoteResponse.{VoteResponse}
+use Rattle.raft_progress.specs.progress.Comparisons.{OrdMembers}
+use Rattle.raft_progress.specs.declared.entry.ProgressEntryOf.{ProgressEntryOf}
+use Rattle.raft_safety.specs.Ranks.{IsAmong}
+use Rattle.raft_state.specs.SnapshotMeta.{IsSnapshotCopy}
+use Rattle.raft_state.specs.entry.Entry.{payload_membership}
+use Rattle.raft_state.specs.log_id_list.FullLog.{full_log}
+use Rattle.raft_state.specs.log_id_list.Keys.{may_be_keys}
+use Rattle.raft_state.specs.log_id_list.LogReads.{id_at, last_id}
+use Rattle.raft_state.specs.membership_state.Memberships.{in_effect}
+use Rattle.raft_state.specs.raft_state.Sound.{IsSound}
+use Rattle.raft_state.specs.raft_state.VoteAndLog.{vote_of}
+use Rattle.raft_state.specs.declared.entry.EntryOf.{EntryOf}
+use Rattle.raft_state.specs.declared.entry.payload.EntryPayload.{EntryPayload}
+use Rattle.raft_state.specs.declared.raft_state.RaftStateIn.{RaftStateIn}
+
+-- a message: a candidate's request, and the response of a server; a leader's requests, and what a
+-- server has answered to the leader with this id
+pub data Message (K N L C D : Type 0) : Type 0 where
+  VoteAsked : VoteRequest L C → Message K N L C D
+  VoteAnswered : K → VoteResponse L → Message K N L C D
+  EntriesSent : AppendEntries L C K N D → Message K N L C D
+  SnapshotSent : InstallSnapshot L C K N → Message K N L C D
+  Answered : K → L → Outcome L C → Message K N L C D
+
+-- the state of each server, its campaign if there is one, and every message that was ever sent
+pub record World (K N I L C D : Type 0) : Type 0 where
+  pub servers : K → RaftStateIn K N I L C
+  pub campaigns : K → Option (Campaign K N L C)
+  pub network : List (Message K N L C D)
+
+-- what is fixed in a cluster: the configs of its members, the leader id in the vote of a server that has
+-- not voted, and the leader ids of all campaigns
+pub record Cluster (K L : Type 0) : Type 0 where
+  pub configs : List (List K)
+  pub start : L
+  pub leaders : List L
+
+-- the members have a config. A server that has not voted has a vote in term 0. Each campaign is of a
+-- node, in a later term, and has a committed leader id of its own
+pub record IsCluster {K L C : Type 0} (kind : LeaderMembers L K C) (c : Cluster K L) : Type 0 where
+  pub has_config : 0 < length c.configs
+  pub start_term : kind.term_of c.start ≡ 0
+  pub later : (l : L) → IsAmong l c.leaders → 0 < kind.term_of l
+  pub node : (l : L) → IsAmong l c.leaders → (n : K) × (kind.voted l ≡ Some n)
+  pub not_start : (l : L) → IsAmong l c.leaders → kind.committed l ≡ kind.committed c.start → ⊥
+
+-- a cluster of one node, which campaigns in term 1
+abbrev pub one_node : {K L C : Type 0} → LeaderMembers L K C → L → K → Cluster K L
+one_node kind start n = record {
+  configs = (n ∷ []) ∷ [];
+  start = start;
+  leaders = kind.leader_of 1 n ∷ [];
+}
+
+-- whatever the node and the leader id of term 0 are, this is a cluster
+abbrev pub OneNodeIsACluster : {K L C : Type 0} → LeaderMembers L K C → Type 0
+OneNodeIsACluster {K} {L} kind = (start : L) (n : K) → kind.term_of start ≡ 0 → IsCluster kind (one_node kind start n)
+
+module _ {K N I L C D : Type 0} (ids : OrdMembers K) (node_eq : N → N → Bool)
+    (kind : LeaderMembers L K C) (logs : OrdMembers C) where
+  module _ (c : Cluster K L) (s : K) (w v : World K N I L C D) where
+    -- the server answers a candidate, which is another server: `handle_vote_request`
+    pub record AnswersCandidate : Type 0 where
+      pub request : VoteRequest L C
+      pub response : VoteResponse L
+      pub message : IsAmong (VoteAsked request) w.network
+      pub other : kind.voted request.vote.leader_id ≡ Some s → ⊥
+      pub call : Grants kind.order logs.cmp request (w.servers s) response (v.servers s)
+      pub campaign : v.campaigns s ≡ w.campaigns s
+      pub sends : v.network ≡ VoteAnswered s response ∷ w.network
+
+    -- the server answers a leader's request to append entries: `handle_append_entries`
+    pub record AnswersLeader : Type 0 where
+      pub request : AppendEntries L C K N D
+      pub outcome : Outcome L C
+      pub message : IsAmong (EntriesSent request) w.network
+      pub other : kind.voted request.leader_id ≡ Some s → ⊥
+      pub vote : (v.servers s).vote ≡ vote_heard kind.order request.leader_id (w.servers s)
+      pub not_followed : is_followed kind.order request.leader_id (w.servers s) ≡ false
+          → outcome ≡ HigherVote (vote_of (w.servers s))
+      pub answers : Answers logs ids.eq node_eq request outcome (w.servers s) (v.servers s)
+      pub purged : (v.servers s).purged_next ≡ (w.servers s).purged_next
+      pub campaign : v.campaigns s ≡ w.campaigns s
+      pub sends : v.network ≡ Answered s request.leader_id outcome ∷ w.network
+
+    -- the server answers a leader's request to install a snapshot: `handle_install_snapshot`
+    pub record AnswersSnapshotOf : Type 0 where
+      pub request : InstallSnapshot L C K N
+      pub upto : LogIdOf C
+      pub is_upto : request.meta.last_log_id ≡ Some upto
+      pub outcome : Outcome L C
+      pub message : IsAmong (SnapshotSent request) w.network
+      pub other : kind.voted request.leader_id ≡ Some s → ⊥
+      pub not_followed : is_followed kind.order request.leader_id (w.servers s) ≡ false
+          → outcome ≡ HigherVote (vote_of (w.servers s))
+      pub followed : IfHigherVote outcome (λ _. is_followed kind.order request.leader_id (w.servers s) ≡ false)
+      pub answers : AnswersSnapshot logs kind.eq (IsSnapshotCopy ids.eq node_eq) request.meta outcome
+          (heard kind.order request.leader_id (w.servers s)) (v.servers s)
+      pub allowed : snapshot_refusal kind.order logs.cmp logs.eq request.leader_id request.meta (w.servers s)
+          ≡ None
+      pub campaign : v.campaigns s ≡ w.campaigns s
+      pub sends : v.network ≡ Answered s request.leader_id outcome ∷ w.network
+
+    -- the server campaigns: `campaign`. Its effective membership has the configs of the cluster
+    pub record StartsCampaign : Type 0 where
+      pub greatest_term : ℕ
+      pub made : Campaign K N L C
+      pub in_use : IsAmong made.vote.leader_id c.leaders
+      pub fixed : (in_effect (w.servers s).membership_state).configs ≡ c.configs
+      pub call : Campaigns (compared ids node_eq kind logs) s greatest_term (w.servers s) (v.servers s) made
+      pub campaign : v.campaigns s ≡ Some made
+      pub sends : v.network
+          ≡ VoteAsked (record { vote = made.vote; last_log_id = made.last_log_id }) ∷ w.network
+
+    -- the server counts a vote: `handle_vote_response`
+    pub record CountsVote : Type 0 where
+      pub before : Campaign K N L C
+      pub after : Campaign K N L C
+      pub from : K
+      pub response : VoteResponse L
+      pub message : IsAmong (VoteAnswered from response) w.network
+      pub granted : response.granted ≡ true
+      pub for_this : response.vote ≡ before.vote
+      pub campaign_before : w.campaigns s ≡ Some before
+      pub call : CountsVoteOf ids.eq from before after
+      pub campaign : v.campaigns s ≡ Some after
+      pub state : (v.servers s) ≡ (w.servers s)
+      pub sends : v.network ≡ w.network
+
+    -- the server is elected: `Leader::(v.servers s)`
+    pub record IsElectedLeader : Type 0 where
+      pub candidate : Campaign K N L C
+      pub made : Leadership K N C
+      pub campaign_before : w.campaigns s ≡ Some candidate
+      pub call : BecomesLeader (compared ids node_eq kind logs) candidate (w.servers s) (v.servers s) made
+      pub campaign : v.campaigns s ≡ w.campaigns s
+      pub sends : v.network ≡ w.network
+
+    -- the server leads, in the term of a campaign of its own
+    pub record Leads (leader : Leadership K N C) : Type 0 where
+      pub leads : IsTrue (is_leading (compared ids node_eq kind logs) leader (w.servers s))
+      pub node : leader.id ≡ s
+      pub in_use : IsAmong (vote_of (w.servers s)).leader_id c.leaders
+
+    -- a leader proposes, and its log is not empty: `propose`, `propose_blank`. The entry holds no membership
+    pub record Proposes : Type 0 where
+      pub leader : Leadership K N C
+      pub leads : Leads leader
+      pub payload : EntryPayload K N D
+      pub entry : EntryOf C K N D
+      pub fixed : payload_membership payload ≡ None
+      pub started : (last : LogIdOf C) × (last_id (full_log (w.servers s).log_ids) ≡ Some last)
+      pub call : AppendsOwn (compared ids node_eq kind logs) leader payload (w.servers s) (v.servers s) entry
+      pub campaign : v.campaigns s ≡ w.campaigns s
+      pub sends : v.network ≡ w.network
+
+    -- a leader sends entries of its log, with what it has committed: `next_request`
+    pub record SendsEntries : Type 0 where
+      pub leader : Leadership K N C
+      pub leads : Leads leader
+      pub request : AppendEntries L C K N D
+      pub is_own : request.leader_id ≡ (vote_of (w.servers s)).leader_id
+      pub prev : (x : LogIdOf C) → request.prev ≡ Some x
+          → id_at (full_log (w.servers s).log_ids) x.index ≡ Some x
+      pub entries : (e : EntryOf C K N D) → IsAmong e request.entries.items
+          → id_at (full_log (w.servers s).log_ids) e.log_id.index ≡ Some e.log_id
+      pub committed : request.committed ≡ (w.servers s).committed
+      pub state : (v.servers s) ≡ (w.servers s)
+      pub campaign : v.campaigns s ≡ w.campaigns s
+      pub sends : v.network ≡ EntriesSent request ∷ w.network
+
+    -- a leader sends a snapshot up to a log id of its log that it knows to be committed
+    pub record SendsSnapshot : Type 0 where
+      pub leader : Leadership K N C
+      pub leads : Leads leader
+      pub request : InstallSnapshot L C K N
+      pub is_own : request.leader_id ≡ (vote_of (w.servers s)).leader_id
+      pub upto : LogIdOf C
+      pub is_upto : request.meta.last_log_id ≡ Some upto
+      pub logged : id_at (full_log (w.servers s).log_ids) upto.index ≡ Some upto
+      pub is_committed : upto.index < next_index (w.servers s).committed
+      pub state : (v.servers s) ≡ (w.servers s)
+      pub campaign : v.campaigns s ≡ w.campaigns s
+      pub sends : v.network ≡ SnapshotSent request ∷ w.network
+
+    -- a leader commits: `commit`. It counts by the configs of the cluster, and each match that it counts is
+    -- true: it is of the leader's own log, or the member has answered with it
+    pub record CommitsGranted : Type 0 where
+      pub leader : Leadership K N C
+      pub leads : Leads leader
+      pub fixed : leader.followers.membership.configs ≡ c.configs
+      pub true_matches : (r : K) (entry : ProgressEntryOf C) (m : LogIdOf C)
+          → entry_of ids.eq leader r ≡ Some entry → entry.matching ≡ Some m
+          → ((r ≡ s) × (id_at (full_log (w.servers s).log_ids) m.index ≡ Some m))
+          ⊎ IsAmong (Answered r (vote_of (w.servers s)).leader_id (Matches (Some m))) w.network
+      pub more : Bool
+      pub call : Commits ids.eq logs leader (w.servers s) (v.servers s) more
+      pub campaign : v.campaigns s ≡ w.campaigns s
+      pub sends : v.network ≡ w.network
+
+    -- a server restarts. What a call changed was on disk before its message was sent, so vote and log are as
+    -- they were. What it knows to be committed may be less, and its campaign is over
+    pub record Restarts : Type 0 where
+      pub same_vote : vote_of (v.servers s) ≡ vote_of (w.servers s)
+      pub log : full_log (v.servers s).log_ids ≡ full_log (w.servers s).log_ids
+      pub purged : (v.servers s).purged_next ≡ (w.servers s).purged_next
+      pub no_more : next_index (v.servers s).committed ≤ next_index (w.servers s).committed
+      pub campaign : v.campaigns s ≡ None
+      pub sends : v.network ≡ w.network
+
+    -- a server purges what is committed: the log ids from there on stay
+    pub record Purges : Type 0 where
+      pub vote : vote_of (v.servers s) ≡ vote_of (w.servers s)
+      pub is_committed : (v.servers s).purged_next ≤ next_index (w.servers s).committed
+      pub same_end : last_id (full_log (v.servers s).log_ids) ≡ last_id (full_log (w.servers s).log_ids)
+      pub kept : (i : ℕ) (x : LogIdOf C) → id_at (full_log (v.servers s).log_ids) i ≡ Some x
+          → id_at (full_log (w.servers s).log_ids) i ≡ Some x
+      pub committed : (v.servers s).committed ≡ (w.servers s).committed
+      pub campaign : v.campaigns s ≡ w.campaigns s
+      pub sends : v.network ≡ w.network
+
+    -- a server takes one step
+    pub data DoesOne : Type 0 where
+      OneVote : AnswersCandidate → DoesOne
+      OneAppend : AnswersLeader → DoesOne
+      OneSnapshot : AnswersSnapshotOf → DoesOne
+      OneCampaign : StartsCampaign → DoesOne
+      OneCount : CountsVote → DoesOne
+      OneElection : IsElectedLeader → DoesOne
+      OneProposal : Proposes → DoesOne
+      OneSend : SendsEntries → DoesOne
+      OneSendSnapshot : SendsSnapshot → DoesOne
+      OneCommit : CommitsGranted → DoesOne
+      OneRestart : Restarts → DoesOne
+      OnePurge : Purges → DoesOne
+
+  -- a server takes one step, and the others do nothing. Each call keeps a sound state sound, and the keys
+  -- of a log are in order, as the type of a log keeps them
+  pub record Step (c : Cluster K L) (w v : World K N I L C D) : Type 0 where
+    pub server : K
+    pub does : DoesOne c server w v
+    pub sound : IsSound logs.eq logs.cmp (w.servers server) → IsSound logs.eq logs.cmp (v.servers server)
+    pub keys : IsTrue (may_be_keys logs.cmp (v.servers server).log_ids)
+    pub others : (r : K) → ids.eq server r ≡ false → v.servers r ≡ w.servers r
+    pub other_campaigns : (r : K) → ids.eq server r ≡ false → v.campaigns r ≡ w.campaigns r
+
+  -- the first world: no server has voted, and a log has at most the entry at index 0
+  pub record IsFirst (c : Cluster K L) (w : World K N I L C D) : Type 0 where
+    pub vote : (s : K) → vote_of (w.servers s) ≡ record { leader_id = c.start; committed = false }
+    pub log : (s : K) → (full_log (w.servers s).log_ids ≡ [])
+        ⊎ (full_log (w.servers s).log_ids
+        ≡ (record { leader_id = kind.committed c.start; index = 0 }) ∷ [])
+    pub purged : (s : K) → (w.servers s).purged_next ≡ 0
+    pub committed : (s : K) → next_index (w.servers s).committed ≤ 1
+    pub sound : (s : K) → IsSound logs.eq logs.cmp (w.servers s)
+    pub keys : (s : K) → IsTrue (may_be_keys logs.cmp (w.servers s).log_ids)
+    pub no_campaign : (s : K) → w.campaigns s ≡ None
+    pub nothing_sent : w.network ≡ []
+
+  -- worlds that came about step by step, the latest first
+  abbrev pub IsRun : Cluster K L → World K N I L C D → List (World K N I L C D) → Type 0
+  IsRun c w [] = IsFirst c w
+  IsRun c w (v ∷ vs) = Step c v w × IsRun c v vs
+
+-- what a server knows to be committed in one world, and another server in another world, agrees: if both
+-- logs have a log id at an index, it is of one leader
+abbrev pub CommittedAgree : {K N I L C D : Type 0} → World K N I L C D → World K N I L C D → Type 0
+CommittedAgree {K} {N} {I} {L} {C} {D} w v =
+    (s r : K) (i : ℕ) (x y : LogIdOf C) → i < next_index (w.servers s).committed
+    → i < next_index (v.servers r).committed → id_at (full_log (w.servers s).log_ids) i ≡ Some x
+    → id_at (full_log (v.servers r).log_ids) i ≡ Some y → x ≡ y
+
+-- in every run of servers with fixed members, what any two servers know to be committed, at any two times,
+-- agrees. Ids that are `==` are equal
+abbrev pub RunsAreSafe : {K N L C : Type 0} → (I D : Type 0) → OrdMembers K → (N → N → Bool)
+    → LeaderMembers L K C → OrdMembers C → Type 0
+RunsAreSafe {K} {N} {L} {C} I D ids node_eq kind logs =
+    ((x y : K) → ids.eq x y ≡ true → x ≡ y) → ((x y : L) → kind.eq x y ≡ true → x ≡ y)
+    → ((x y : C) → logs.eq x y ≡ true → x ≡ y) → (c : Cluster K L)
+    → IsCluster kind c → (w : World K N I L C D) (ws : List (World K N I L C D))
+    → IsRun ids node_eq kind logs c w ws → (u v : World K N I L C D) → IsAmong u (w ∷ ws)
+    → IsAmong v (w ∷ ws) → CommittedAgree u v

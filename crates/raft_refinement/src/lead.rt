@@ -1,0 +1,43 @@
+//! A leader commits by the rule.
+ghost use Rattle.std.specs.Prelude.{◌≡◌, Bool, IfOk, IsTrue, Some};
+ghost use Rattle.raft_base.specs.declared.log_id.LogIdOf.{LogIdOf as LogIdRecord};
+ghost use Rattle.raft_handlers.specs.Compared.{compared};
+ghost use Rattle.raft_handlers.specs.Leadership.{entry_of, granted_by};
+ghost use Rattle.raft_members.specs.quorum.Majority.{is_joint_majority};
+ghost use Rattle.raft_refinement.specs.Electing.{HasCommitted, KnowsMatches, match_of};
+ghost use Rattle.raft_refinement.specs.Seen.{leaders_of, seen};
+ghost use Rattle.raft_refinement.specs.Server.{IsInHistory, Place};
+ghost use Rattle.raft_safety.specs.Events.{log_after};
+ghost use Rattle.raft_state.specs.raft_state.VoteAndLog.{vote_of};
+
+use raft_base::{Instant, LeaderIdentity, Node, NodeId};
+use raft_handlers::{HandlerError, Leader, State};
+
+/// Commits, as `Leader::commit` does: what is new is committed by the rule, if the leader counts
+/// true matches by the config in effect in its log.
+pub fn commits<
+    NID: NodeId,
+    N: Node,
+    I: Instant,
+    L: LeaderIdentity<Id = NID, Committed = C> + Drop,
+    C: Ord + Copy + Default + Drop + 'static,
+    D,
+>(leader: &Leader<NID, N, C>, state: &mut State<NID, N, I, L>) -> Result<bool, HandlerError>
+    ghost p: { Place L C NID D }
+    requires server { let by = compared NID.Ord N.eq L.LeaderIdentity C.Ord in
+        IsInHistory (leaders_of by) p (seen state.old) }
+    requires own { leader.now.leader_id ≡ L.committed (vote_of state.old).leader_id }
+    requires log { p.history.leader_log (L.committed (vote_of state.old).leader_id) p.server
+        ≡ log_after (p.history.events p.server) }
+    requires knows { let by = compared NID.Ord N.eq L.LeaderIdentity C.Ord in
+        KnowsMatches (leaders_of by) p (vote_of state.old).leader_id p.server
+        (λ r. match_of (entry_of NID.eq leader.now r)) }
+    requires configs { (set : NID → Bool) → p.quorum (log_after (p.history.events p.server)) set
+        ≡ is_joint_majority NID.eq leader.now.followers.membership.configs set }
+    ensures by_rule { let by = compared NID.Ord N.eq L.LeaderIdentity C.Ord in
+        IfOk result (λ more. IsTrue more → (id : LogIdRecord C) × (granted_by leader.now ≡ Some id)
+        × HasCommitted (leaders_of by) p (vote_of state.old).leader_id id
+        (p.history.events p.server) (seen state.new)) }
+{
+    leader.commit(state)
+}
