@@ -68,7 +68,7 @@ use Rattle.raft_state.specs.declared.raft_state.RaftStateIn.{RaftStateIn}
 -- an answer that the leader is not followed, because of a vote of which this holds
 abbrev pub IfHigherVote : {L C : Type 0} → Outcome L C → (VoteIn L → Type 0) → Type 0
 IfHigherVote (Matches upto) p = Unit {0}
-IfHigherVote (Conflict at) p = Unit {0}
+IfHigherVote (Conflict at last) p = Unit {0}
 IfHigherVote (HigherVote vote) p = p vote
 
 -- the log id of the last of these entries, or `prev` where there is none
@@ -300,7 +300,8 @@ Answers ord id_eq same request (Matches upto) old new =
     (upto ≡ last_of request.prev request.entries.items)
     × Took ord id_eq same request.prev request.entries.items
     (least ord.cmp request.committed (last_of request.prev request.entries.items)) old new
-Answers ord id_eq same request (Conflict at) old new = CutAt ord at request.prev old new
+Answers ord id_eq same request (Conflict at last) old new =
+    CutAt ord at request.prev old new × (last ≡ index_of (last_id (full_log new.log_ids)))
 Answers ord id_eq same request (HigherVote vote) old new = (vote ≡ vote_of old) × (new ≡ old)
 
 -- the log had `prev`, the entries are in order, and what is new of them truncates nothing committed

@@ -1,17 +1,45 @@
 -- What a leader sends to a member next, and what the response makes of what it knows of the member.
-use Rattle.std.specs.Prelude.{◌≡◌, ℕ, Bool, false, max, Option, Some, None, Result, Ok, Err, IsOk, IsTrue, OnErr}
-use Rattle.std.specs.Option.{option_map_or}
+use Rattle.std.specs.Prelude.{
+  ◌≡◌,
+  ℕ,
+  ◌+◌,
+  ◌-◌,
+  ◌%◌,
+  ◌^◌,
+  Bool,
+  false,
+  ◌&&◌,
+  nat_le,
+  nat_lt,
+  min,
+  max,
+  Option,
+  Some,
+  None,
+  Result,
+  Ok,
+  Err,
+  IsOk,
+  IsTrue,
+  OnErr,
+  if◌then◌else◌,
+}
+use Rattle.std.specs.Option.{option_map, option_map_or, option_or}
+use Rattle.std.specs.Result.{result_unwrap_or}
 use Rattle.std.specs.declared.cmp.Ordering.{Ordering}
-use Rattle.raft_base.specs.LogView.{LogView}
+use Rattle.raft_base.specs.LogId.{next_index}
+use Rattle.raft_base.specs.LogView.{LogView, prev_id}
 use Rattle.raft_base.specs.Logged.{Logged}
+use Rattle.raft_base.specs.declared.log_id.LogIdOf.{LogIdOf}
 use Rattle.raft_progress.specs.entry.EntryTable.{entry_after_ack, entry_after_conflict}
 use Rattle.raft_progress.specs.entry.Request.{after_request}
+use Rattle.raft_progress.specs.entry.Send.{can_send}
 use Rattle.raft_progress.specs.inflight.Inflight.{id_of, is_idle}
 use Rattle.raft_progress.specs.progress.Comparisons.{OrdMembers}
 use Rattle.raft_progress.specs.declared.entry.ProgressEntryOf.{ProgressEntryOf}
 use Rattle.raft_progress.specs.declared.inflight.InflightError.{InflightError}
 use Rattle.raft_progress.specs.declared.inflight.InflightOf.{InflightOf}
-use Rattle.raft_progress.specs.declared.inflight.InflightOf.TheVariants.{None as Idle}
+use Rattle.raft_progress.specs.declared.inflight.InflightOf.TheVariants.{None as Idle, Logs}
 use Rattle.raft_state.specs.raft_state.Sending.{FromLog}
 use Rattle.raft_handlers.specs.Leadership.{Leadership, WritesEntry, WritesMember, entry_of}
 use Rattle.raft_handlers.specs.declared.error.HandlerError.{HandlerError}
@@ -29,6 +57,25 @@ abbrev pub as_refused : {S : Type 0} → Result S InflightError → Result S Han
 as_refused (Ok entry) = Ok entry
 as_refused (Err e) = Err (ResponseRefused e)
 
+-- the index after the last one of a member's log, of which it gives the last index, if there is one
+abbrev pub end_after : (last : Option ℕ) → ℕ
+end_after None = 0
+end_after (Some index) = min (index + 1) (2 ^ 64 - 1)
+
+-- after an accepted conflict the search ends where the member's log ends, if that is lower and not
+-- below what matches
+abbrev pub with_hint : {C : Type 0} → (last : Option ℕ)
+    → Result (ProgressEntryOf C) InflightError → Result (ProgressEntryOf C) InflightError
+with_hint last (Err e) = Err e
+with_hint last (Ok entry) =
+    Ok (result_unwrap_or (entry_after_conflict entry None (end_after last)) entry)
+
+-- a conflict: the search ends at its index, or where the member's log ends
+abbrev pub after_conflict : {C : Type 0} → ProgressEntryOf C → Option ℕ → (index : ℕ)
+    → (last : Option ℕ) → Result (ProgressEntryOf C) InflightError
+after_conflict entry request index last =
+    with_hint last (entry_after_conflict entry request index)
+
 -- an acknowledgement of a request raises the match, a conflict lowers the end of the search, the
 -- response to a heartbeat that matches changes nothing, and that of a higher vote is refused
 abbrev pub after_outcome : {L C : Type 0} → (C → C → Ordering) → ProgressEntryOf C → Option ℕ
@@ -36,14 +83,52 @@ abbrev pub after_outcome : {L C : Type 0} → (C → C → Ordering) → Progres
 after_outcome cmp entry (Some request) (Matches upto) =
     as_refused (entry_after_ack cmp entry request upto)
 after_outcome cmp entry None (Matches upto) = Ok entry
-after_outcome cmp entry request (Conflict index) =
-    as_refused (entry_after_conflict entry request index)
+after_outcome cmp entry request (Conflict index last) =
+    as_refused (after_conflict entry request index last)
 after_outcome cmp entry request (RefusedFor vote) = Err HigherVote
 
 -- what is known of a member after its response
 abbrev pub after_response : {L C : Type 0} → (C → C → Ordering) → ProgressEntryOf C → Response L C
     → Result (ProgressEntryOf C) HandlerError
 after_response cmp entry response = after_outcome cmp entry response.request response.outcome
+
+-- the last log id that both logs have is searched for: 16 or more indexes are between what a member
+-- matches and the searching end
+abbrev pub is_searched : {C : Type 0} → ProgressEntryOf C → Bool
+is_searched entry = nat_le (next_index entry.matching + 16) entry.searching_end
+
+-- how many entries a request has at most: one in a search
+abbrev pub limit_of : {C : Type 0} → ProgressEntryOf C → ℕ → ℕ
+limit_of entry max_entries = if is_searched entry then min max_entries 1 else max_entries
+
+-- the next request of a search is a probe: of eight numbers the first two are those of probes, if a
+-- send is allowed and nothing is in flight
+abbrev pub is_probe_due : {C : Type 0} → ProgressEntryOf C → LogView C → Bool
+is_probe_due entry log =
+    is_idle entry.inflight && is_searched entry && nat_lt (entry.curr_inflight_id % 8) 2
+    && can_send entry log
+
+-- what is known of a member once a probe is in flight, which has no entries and the next number, and
+-- asks for a log id
+abbrev pub with_probe : {C : Type 0} → ProgressEntryOf C → LogIdOf C → ProgressEntryOf C
+with_probe entry prev =
+    record entry {
+      curr_inflight_id = entry.curr_inflight_id + 1;
+      inflight = Logs (entry.curr_inflight_id + 1) (record { prev = Some prev; last = Some prev });
+    }
+
+-- a probe asks for the log id before the searching end, if it is due and the log has that log id
+abbrev pub after_probe : {C : Type 0} → ProgressEntryOf C → LogView C → Option (ProgressEntryOf C)
+after_probe entry log =
+    if is_probe_due entry log
+    then option_map (with_probe entry) (prev_id log.id_at entry.searching_end) else None
+
+-- what is known of a member once something is sent to it: a probe, or what the search or the log gives
+abbrev pub after_send : {C : Type 0} → (C → C → Ordering) → ProgressEntryOf C → LogView C → ℕ
+    → Option (ProgressEntryOf C)
+after_send cmp entry log max_entries =
+    option_or (after_probe entry log)
+    (after_request cmp entry log (limit_of entry max_entries))
 
 -- the greatest number of a request, once this is sent
 abbrev pub number_after : {C : Type 0} → ℕ → Option (InflightOf C) → ℕ
@@ -53,27 +138,30 @@ number_after last (Some sending) = option_map_or (λ id. max last id) (id_of sen
 module _ {K N C : Type 0} (eq : K → K → Bool) (by : OrdMembers C) where
   -- what is sent to a member next: what is put in flight, if a send is allowed and there is something to
   -- send, and otherwise a heartbeat, which changes nothing; to an id of no member nothing is sent; over
-  -- a log that has all its log ids from the purge point on, what is sent is a piece of the log
+  -- a log that has all its log ids from the purge point on, what is sent and is no probe is a piece of
+  -- the log
   pub record SendsNext (to : K) (log : LogView C) (max_entries : ℕ) (old new : Leadership K N C)
       (result : Option (InflightOf C)) : Type 0 where
     pub unknown : entry_of eq old to ≡ None → result ≡ None
     pub sent : (entry next : ProgressEntryOf C) → entry_of eq old to ≡ Some entry
-        → after_request by.cmp entry log max_entries ≡ Some next → result ≡ Some next.inflight
+        → after_send by.cmp entry log max_entries ≡ Some next → result ≡ Some next.inflight
     pub in_flight : (entry next : ProgressEntryOf C) → entry_of eq old to ≡ Some entry
-        → after_request by.cmp entry log max_entries ≡ Some next
+        → after_send by.cmp entry log max_entries ≡ Some next
         → WritesMember eq old.followers to next new.followers
     pub numbered : new ≡ record old {
       followers = new.followers;
       last_request = number_after old.last_request result;
     }
     pub from_log : (entry next : ProgressEntryOf C) → entry_of eq old to ≡ Some entry
-        → after_request by.cmp entry log max_entries ≡ Some next → IsTrue (is_idle entry.inflight)
-        → Logged by.cmp log → FromLog log max_entries entry next.inflight
+        → after_probe entry log ≡ None
+        → after_request by.cmp entry log (limit_of entry max_entries) ≡ Some next
+        → IsTrue (is_idle entry.inflight) → Logged by.cmp log
+        → FromLog log (limit_of entry max_entries) entry next.inflight
     pub heartbeat : (entry : ProgressEntryOf C) → entry_of eq old to ≡ Some entry
-        → after_request by.cmp entry log max_entries ≡ None → result ≡ Some Idle
+        → after_send by.cmp entry log max_entries ≡ None → result ≡ Some Idle
     pub unchanged : result ≡ None → new ≡ old
     pub unchanged_by_heartbeat : (entry : ProgressEntryOf C) → entry_of eq old to ≡ Some entry
-        → after_request by.cmp entry log max_entries ≡ None → new ≡ old
+        → after_send by.cmp entry log max_entries ≡ None → new ≡ old
 
   -- what a response does: one to another leader or of no member is refused; otherwise it is taken as the
   -- table of responses says, or refused; a refused response changes nothing

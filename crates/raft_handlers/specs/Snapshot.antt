@@ -46,7 +46,7 @@ abbrev pub AnswersSnapshot : {K N I L C : Type 0} → OrdMembers C → (L → L 
     → (old new : RaftStateIn K N I L C) → Type 0
 AnswersSnapshot ord same_leader IsCopy meta (Matches upto) old new =
     (upto ≡ meta.last_log_id) × Installs ord same_leader IsCopy meta old new
-AnswersSnapshot ord same_leader IsCopy meta (Conflict at) old new = ⊥
+AnswersSnapshot ord same_leader IsCopy meta (Conflict at last) old new = ⊥
 AnswersSnapshot ord same_leader IsCopy meta (HigherVote vote) old new =
     (vote ≡ vote_of old) × (new ≡ old)
 

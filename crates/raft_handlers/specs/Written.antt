@@ -66,7 +66,7 @@ risen_to cmp old new = if id_lt cmp old new then new else None
 abbrev pub count_new : {K N I L C D : Type 0} → (C → C → Bool) → Outcome L C
     → List (EntryOf C K N D) → RaftStateIn K N I L C → ℕ
 count_new eq (Matches upto) es s = length (new_of eq s es)
-count_new eq (Conflict at) es s = 0
+count_new eq (Conflict at last) es s = 0
 count_new eq (HigherVote vote) es s = 0
 
 -- the log is truncated at this index, at which or after which it has an entry, or it is as it was

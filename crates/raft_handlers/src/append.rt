@@ -19,7 +19,7 @@ use crate::message::{AppendEntries, Outcome, Response};
 use crate::state::State;
 use crate::vote::follow;
 use raft_base::order::log_id_below;
-use raft_base::{Instant, LeaderIdentity, LogIdOf, Node, NodeId};
+use raft_base::{Instant, LeaderIdentity, LogIdOf, LogIdOptionExt, LogStateReader, Node, NodeId};
 use raft_state::{EntryOf, RaftStateIn, VoteStateReader};
 
 /// Handles a leader's request to append entries. It promises the leader's vote, truncates what
@@ -135,7 +135,8 @@ fn match_log<NID: NodeId, N: Node, I: Instant, L: Drop, C: Ord + Copy + Drop, D>
             new: 0,
             committed: None,
         };
-        return Ok((Outcome::Conflict(at), changes));
+        let last = state.last_log_id().copied().index();
+        return Ok((Outcome::Conflict { index: at, last }, changes));
     }
     let last = request.last_log_id();
     let committed = least(request.committed, last);

@@ -27,8 +27,8 @@ pub struct VoteResponse<L> {
     pub granted: bool,
 }
 
-/// A leader's request to append entries. Without entries it is a heartbeat, or asks whether the
-/// follower's log has `prev`.
+/// A leader's request to append entries. Without entries it is a heartbeat, or a probe, which asks
+/// whether the follower's log has `prev`.
 #[derive(Drop)]
 pub struct AppendEntries<L, C, NID: NodeId, N: Node, D> {
     /// The leader, which a quorum has elected.
@@ -59,8 +59,13 @@ pub struct InstallSnapshot<L, C, NID: NodeId, N: Node> {
 pub enum Outcome<L, C> {
     /// The follower's log matches the leader's up to this log id.
     Matches(Option<LogIdOf<C>>),
-    /// The follower's log does not have the leader's log id at this index.
-    Conflict(u64),
+    /// The follower's log does not have the leader's log id at an index, and is truncated there.
+    Conflict {
+        /// The index of the log id that the request has as `prev`.
+        index: u64,
+        /// The index of the last log id that the follower has left, or `None` if it has none.
+        last: Option<u64>,
+    },
     /// The follower has promised this vote, and the leader's vote is not at least this one.
     HigherVote(VoteIn<L>),
 }

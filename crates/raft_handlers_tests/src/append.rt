@@ -82,7 +82,7 @@ const ROWS: &[(&str, Sent, Answer, Written, Row, Row)] = &[
     (
         "the log has another log id at the index of prev",
         (3, Some((3, 3)), &[], None),
-        Answer::Conflict(3),
+        Answer::Conflict(3, 2),
         (Some(3), 0, None),
         Some((2, 2)),
         FIRST,
@@ -90,7 +90,7 @@ const ROWS: &[(&str, Sent, Answer, Written, Row, Row)] = &[
     (
         "the log ends before prev",
         (3, Some((3, 9)), &[(3, 10)], None),
-        Answer::Conflict(9),
+        Answer::Conflict(9, 3),
         NOTHING,
         END,
         FIRST,

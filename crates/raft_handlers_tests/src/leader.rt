@@ -27,7 +27,7 @@ pub enum Step {
     Send(u64),
     /// A node acknowledges a request up to a row.
     Take(u64, u64, Row),
-    /// A node's log conflicts with a request at an index.
+    /// A node's log conflicts with a request at an index, and is empty then.
     Conflict(u64, u64, u64),
     /// A node has promised a higher vote.
     Depose(u64),
@@ -138,7 +138,9 @@ impl<K: LeaderKind<u64>> Led<K> {
             Step::Take(from, request, upto) => {
                 self.take(from, request, Outcome::Matches(id::<K>(upto)))
             }
-            Step::Conflict(from, request, at) => self.take(from, request, Outcome::Conflict(at)),
+            Step::Conflict(from, request, index) => {
+                self.take(from, request, Outcome::Conflict { index, last: None })
+            }
             Step::Depose(from) => {
                 let vote = VoteOf::<u64, K>::new(4, 2);
                 self.take(from, 1, Outcome::HigherVote(vote))

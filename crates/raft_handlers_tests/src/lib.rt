@@ -10,6 +10,8 @@ mod asserts;
 #[cfg(test)]
 mod candidate;
 #[cfg(test)]
+mod catch_up;
+#[cfg(test)]
 mod change;
 #[cfg(test)]
 mod leader;

@@ -118,8 +118,8 @@ pub fn is_at<K: LeaderKind<u64>>(state: &StateOf<K>, last: Row, committed: Row) 
 pub enum Answer {
     /// Its log matches up to this row.
     Matches(Row),
-    /// Its log conflicts at this index.
-    Conflict(u64),
+    /// Its log conflicts at an index, and then ends with another one.
+    Conflict(u64, u64),
     /// It has promised a higher vote.
     HigherVote,
     /// It refuses.
@@ -133,7 +133,10 @@ pub fn due<K: LeaderKind<u64>>(
 ) -> Result<Response<K::Leader, K::Committed>, HandlerError> {
     let outcome = match answer {
         Answer::Matches(upto) => Outcome::Matches(id::<K>(upto)),
-        Answer::Conflict(at) => Outcome::Conflict(at),
+        Answer::Conflict(index, last) => Outcome::Conflict {
+            index,
+            last: Some(last),
+        },
         Answer::HigherVote => Outcome::HigherVote(VoteOf::<u64, K>::new_committed(3, 1)),
         Answer::Refused(refusal) => return Err(refusal),
     };

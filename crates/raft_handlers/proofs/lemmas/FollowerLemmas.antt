@@ -25,7 +25,7 @@ use Rattle.raft_progress.specs.declared.progress.steps.Reply.TheVariants.{
   OutOfMemory,
 }
 use Rattle.raft_progress.proofs.lemmas.OrderLemmas.{AtMost-refl}
-use Rattle.raft_handlers.specs.Leadership.{Leadership, WritesEntry}
+use Rattle.raft_handlers.specs.Leadership.{Leadership, WritesEntry, WritesMember}
 use Rattle.raft_handlers.proofs.lemmas.TrackedLemmas.{update_writes}
 
 -- of a comparison from the other side
@@ -52,6 +52,17 @@ module _ {C : Type 0} {cmp : C → C → Ordering} (total : IsTotalOrder cmp) wh
       ap is_lt (o.antisymm next.matching current.matching)
       ∙ not_below (option_cmp (log_id_cmp cmp) current.matching next.matching) h
 
+  -- the value of a member is written, if its match does not fall
+  pub member_updated : {K N : Type 0} (eq : K → K → Bool) (old new : TrackedView K N (ProgressEntryOf C) (Option (LogIdOf C)))
+      (id : K) (current next : ProgressEntryOf C) (reply : Reply K (Option (LogIdOf C)))
+      → IsTrackedUpdate eq (option_cmp (log_id_cmp cmp)) (λ (e : ProgressEntryOf C). e.matching) old id next reply new
+      → (state eq old.progress).value id ≡ Some current → id_le cmp current.matching next.matching ≡ true
+      → WritesMember eq old id next new
+  member_updated eq old new id current next reply u known h =
+      let w = update_writes eq (option_cmp (log_id_cmp cmp)) (λ (e : ProgressEntryOf C). e.matching) old new id next current
+      reply u known (no_fall current next h) in
+      record { entries = w.value; members = u.membership }
+
   -- what is known of a member is written, if its match does not fall
   pub entry_written : {K N : Type 0} (eq : K → K → Bool) (l : Leadership K N C)
       (new : TrackedView K N (ProgressEntryOf C) (Option (LogIdOf C))) (id : K) (current next : ProgressEntryOf C)
@@ -60,9 +71,7 @@ module _ {C : Type 0} {cmp : C → C → Ordering} (total : IsTotalOrder cmp) wh
       → (state eq l.followers.progress).value id ≡ Some current → id_le cmp current.matching next.matching ≡ true
       → WritesEntry eq l id next (record l { followers = new })
   entry_written eq l new id current next reply u known h =
-      let w = update_writes eq (option_cmp (log_id_cmp cmp)) (λ (e : ProgressEntryOf C). e.matching) l.followers new id next current
-      reply u known (no_fall current next h) in
-      record { member = record { entries = w.value; members = u.membership }; rest = refl }
+      record { member = member_updated eq l.followers new id current next reply u known h; rest = refl }
 
   -- a match that is below the present one falls
   falls_below : (current next : ProgressEntryOf C) → id_le cmp current.matching next.matching ≡ false

@@ -1,10 +1,12 @@
 -- What a request to a member, and a response of it, make of what a leader knows of it.
 use Rattle.std.specs.Prelude.{◌≡◌, ℕ, Bool, true, false, if◌then◌else◌, Option, Some, None, Result, Ok, Err, IsOk, OnErr, refl, option_map}
 use Rattle.std.specs.Cmp.{IsEquivalence, IsTotalOrder}
+use Rattle.std.specs.Map.{update}
+use Rattle.std.specs.Result.{result_unwrap_or}
 use Rattle.std.specs.declared.cmp.Ordering.{Ordering}
 use Rattle.std.proofs.Common.{ap, sym, subst, ◌∙◌}
 use Rattle.raft_base.specs.LogId.{id_le}
-use Rattle.raft_base.specs.LogView.{LogView}
+use Rattle.raft_base.specs.LogView.{LogView, prev_id}
 use Rattle.raft_base.specs.declared.log_id.LogIdOf.{LogIdOf}
 use Rattle.raft_progress.specs.entry.Request.{FollowsRequest, after_request, sent}
 use Rattle.raft_progress.specs.entry.EntryTable.{entry_after_conflict}
@@ -16,7 +18,18 @@ use Rattle.raft_progress.specs.declared.inflight.InflightOf.{InflightOf}
 use Rattle.raft_progress.specs.declared.inflight.InflightOf.TheVariants.{None as Idle}
 use Rattle.raft_progress.proofs.lemmas.tracked.FollowerLemmas.{member_writes, same_member}
 use Rattle.raft_handlers.specs.Leadership.{Leadership, WritesEntry, WritesMember}
-use Rattle.raft_handlers.specs.Responses.{after_outcome, as_refused}
+use Rattle.raft_handlers.specs.Responses.{
+  after_conflict,
+  after_outcome,
+  after_probe,
+  after_send,
+  as_refused,
+  end_after,
+  is_probe_due,
+  limit_of,
+  with_hint,
+  with_probe,
+}
 use Rattle.raft_handlers.specs.declared.error.HandlerError.{HandlerError}
 use Rattle.raft_handlers.specs.declared.error.HandlerError.TheVariants.{HigherVote}
 use Rattle.raft_handlers.specs.declared.message.Outcome.TheVariants.{Conflict, HigherVote as RefusedFor}
@@ -81,9 +94,10 @@ on_err (Err e) P Q f p = f p
 
 -- a conflict, with a request or without one
 pub conflict_table : {C : Type 0} (L : Type 0) (cmp : C → C → Ordering) (entry : ProgressEntryOf C) (request : Option ℕ) (index : ℕ)
-    → after_outcome {L = L} cmp entry request (Conflict index) ≡ as_refused (entry_after_conflict entry request index)
-conflict_table L cmp entry (Some r) index = refl
-conflict_table L cmp entry None index = refl
+    (last : Option ℕ)
+    → after_outcome {L = L} cmp entry request (Conflict index last) ≡ as_refused (after_conflict entry request index last)
+conflict_table L cmp entry (Some r) index last = refl
+conflict_table L cmp entry None index last = refl
 
 -- a higher vote, with a request or without one
 pub vote_table : {L C : Type 0} (cmp : C → C → Ordering) (entry : ProgressEntryOf C) (request : Option ℕ) (vote : _)
@@ -131,6 +145,59 @@ module _ {K N C : Type 0} {eq : K → K → Bool} (laws : IsEquivalence eq) (old
       subst (WritesMember eq old id entry) (same_member eq old id entry known)
       record { entries = (member_writes eq old id laws entry entry known).value; members = refl }
 
+-- a value that is written twice has the latter one
+writes_twice : {K N C : Type 0} (eq : K → K → Bool) (old mid new : Followers K N C) (id : K) (next last : ProgressEntryOf C)
+    → WritesMember eq old id next mid → WritesMember eq mid id last new → WritesMember eq old id last new
+writes_twice eq old mid new id next last first later = record {
+  entries = λ x. later.entries x ∙ by x (eq id x) refl;
+  members = later.members ∙ first.members;
+}
+  where
+    by : (x : _) (b : Bool) → eq id x ≡ b
+        → update eq (member_value eq mid) id (Some last) x ≡ update eq (member_value eq old) id (Some last) x
+    by x true is = rw is refl
+    by x false is = let w = first.entries x in rw is (rw is at w)
+
+module _ {K N C : Type 0} {eq : K → K → Bool} (laws : IsEquivalence eq) (cmp : C → C → Ordering) (old mid new : Followers K N C)
+    (id : K) (request : Option ℕ) (index : ℕ) (last : Option ℕ) where
+  abbrev pub Hinted : Option (Result (Unit {0}) InflightError) → Followers K N C → Type 0
+  Hinted r after = IsResponse (member_value eq old id) (λ entry. after_conflict entry request index last)
+      (λ next. WritesMember eq old id next after) old r after
+
+  -- a conflict, and then the hint of the member
+  pub conflict_hinted : IsConflict eq cmp old id request index (Some (Ok tt)) mid → (r : Option (Result (Unit {0}) InflightError))
+      → IsConflict eq cmp mid id None (end_after last) r new → Hinted (Some (Ok tt)) new
+  conflict_hinted s r t = by r t
+    where
+      first : WritesMember eq old id s.1 mid
+      first = member_written laws old mid id s.0 s.1 s.2 s.4
+
+      there : member_value eq mid id ≡ Some s.1
+      there = let w = first.entries id in rw (laws.refl id) at w
+
+      hint : (r : Result (ProgressEntryOf C) InflightError) → entry_after_conflict s.1 None (end_after last) ≡ r
+          → after_conflict s.0 request index last ≡ Ok (result_unwrap_or r s.1)
+      hint r is = ap (with_hint last) s.3 ∙ ap (λ (x : Result (ProgressEntryOf C) InflightError). Ok (result_unwrap_or x s.1)) is
+
+      by : (r : Option (Result (Unit {0}) InflightError)) → IsConflict eq cmp mid id None (end_after last) r new
+          → Hinted (Some (Ok tt)) new
+      by (Some (Ok u)) t =
+          let e : Some t.0 ≡ Some s.1 = sym t.2 ∙ there in
+          let same : t.0 ≡ s.1 = cc in
+          let table = rw same at t.3 in (
+            s.0,
+            t.1,
+            s.2,
+            hint (Ok t.1) table,
+            writes_twice eq old mid new id s.1 t.1 first (member_written laws mid new id t.0 t.1 t.2 t.4),
+          )
+      by (Some (Err f)) t =
+          let e : Some t.0 ≡ Some s.1 = sym t.1 ∙ there in
+          let same : t.0 ≡ s.1 = cc in
+          let table = rw same at t.2 in
+          (s.0, s.1, s.2, hint (Err f) table, subst (WritesMember eq old id s.1) (sym t.3) first)
+      by None t = let e : Some s.1 ≡ None = sym there ∙ t.0 in cc
+
 -- what is written of a member is written of what a leader knows of it
 pub leader_writes : {K N C : Type 0} (eq : K → K → Bool) (l : Leadership K N C) (new : Followers K N C) (id : K) (entry : ProgressEntryOf C)
     → WritesMember eq l.followers id entry new → WritesEntry eq l id entry (record l { followers = new })
@@ -167,6 +234,30 @@ module _ {K N C : Type 0} (eq : K → K → Bool) {cmp : C → C → Ordering} (
   conflict_default request index (Some (Ok u)) s = λ i. (s.4 i).progress.default_part
   conflict_default request index (Some (Err e)) s = λ i. (s.3 i).progress.default_part
   conflict_default request index None s = λ i. (s.1 i).progress.default_part
+
+-- ---- probes
+
+-- a probe leaves what matches
+probe_matches : {C : Type 0} (entry next : ProgressEntryOf C) (due : Bool) (prev : Option (LogIdOf C))
+    → (let made : Option (ProgressEntryOf C) = (if due then option_map (with_probe entry) prev else None) in made) ≡ Some next
+    → next.matching ≡ entry.matching
+probe_matches entry next true (Some id) h = let same : with_probe entry id ≡ next = cc in ap (λ e. e.matching) (sym same)
+probe_matches entry next true None h = cc
+probe_matches entry next false prev h = cc
+
+pub probe_keeps : {C : Type 0} (entry next : ProgressEntryOf C) (log : LogView C) → after_probe entry log ≡ Some next
+    → next.matching ≡ entry.matching
+probe_keeps entry next log h = probe_matches entry next (is_probe_due entry log) (prev_id log.id_at entry.searching_end) h
+
+-- what is sent is a probe, or else what the layer sends
+pub sends_probe : {C : Type 0} (cmp : C → C → Ordering) (entry next : ProgressEntryOf C) (log : LogView C) (max_entries : ℕ)
+    → after_probe entry log ≡ Some next → after_send cmp entry log max_entries ≡ Some next
+sends_probe cmp entry next log max_entries h = rw h refl
+
+pub sends_rest : {C : Type 0} (cmp : C → C → Ordering) (entry : ProgressEntryOf C) (log : LogView C) (max_entries : ℕ)
+    → after_probe entry log ≡ None
+    → after_send cmp entry log max_entries ≡ after_request cmp entry log (limit_of entry max_entries)
+sends_rest cmp entry log max_entries h = rw h refl
 
 -- ---- requests, by their results
 

@@ -591,7 +591,7 @@ module _ {K N I L C D : Type 0} (ord : OrdMembers C) (id_eq : K → K → Bool) 
     heard_took request.prev request.entries.items (least ord.cmp request.committed
         (last_of request.prev request.entries.items)) h.1,
   )
-  heard_answers request (Conflict at) not h = heard_cut ord s new vote at request.prev h
+  heard_answers request (Conflict at last) not h = (heard_cut ord s new vote at request.prev h.0, h.1)
   heard_answers request (HigherVote v) not h = absurd not
 
 -- a server that does not follow a leader is as it was

@@ -130,10 +130,11 @@ module _ {K N I L C D : Type 0} (ord : OrdMembers C) (es : List (EntryOf C K N D
   matches_alike a b changes old new w = record { log = w.log; needed = w.needed; count = w.count; committed = w.committed }
 
   -- a log that conflicts is truncated, and gets no entry
-  pub conflict_written : IsTotalOrder ord.cmp → IsEquivalence ord.eq → (at : ℕ) (from : Option ℕ) (old new : RaftStateIn K N I L C)
-      → Truncates from old new → new.committed ≡ old.committed → WritesLog ord es (Conflict at)
+  pub conflict_written : IsTotalOrder ord.cmp → IsEquivalence ord.eq → (at : ℕ) (last : Option ℕ) (from : Option ℕ)
+      (old new : RaftStateIn K N I L C) → Truncates from old new → new.committed ≡ old.committed
+      → WritesLog ord es (Conflict at last)
       (record { vote = false; truncated_from = from; new = 0; committed = None }) old new
-  conflict_written total eqs at from old new t same = record {
+  conflict_written total eqs at last from old new t same = record {
     log = rw (none_last (entry_ids es), append-nil, ← t.log) (same_log_itself ord.eq eqs (full_log new.log_ids));
     needed = t.needed;
     count = refl;
@@ -164,7 +165,7 @@ module _ {K N I L C D : Type 0} (ord : OrdMembers C) (es : List (EntryOf C K N D
       by : (o : Outcome L C) → changes.new ≡ count_new ord.eq o es (let t : RaftStateIn K N I L C = record s { vote = vote } in t)
           → changes.new ≡ count_new ord.eq o es s
       by (Matches upto) h = h
-      by (Conflict at) h = h
+      by (Conflict at last) h = h
       by (HigherVote v) h = h
 
   -- nothing is written for a leader that is not followed

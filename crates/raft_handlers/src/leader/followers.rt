@@ -4,7 +4,7 @@ ghost use Rattle.std.specs.Option.{option_map};
 ghost use Rattle.raft_base.specs.LogId.{id_le};
 ghost use Rattle.raft_handlers.specs.Compared.{compared};
 ghost use Rattle.raft_handlers.specs.Leadership.{IsFlushRefusal, WritesEntry, WritesMember, entry_of, flushed_entry, granted_by, is_leading};
-ghost use Rattle.raft_handlers.specs.Responses.{SendsNext, TakesResponse, after_response, as_refused, number_after};
+ghost use Rattle.raft_handlers.specs.Responses.{SendsNext, TakesResponse, after_conflict, after_probe, after_response, after_send, as_refused, end_after, is_probe_due, is_searched, limit_of, number_after};
 ghost use Rattle.raft_progress.specs.tracked.Followers.{IsResponse, member_value};
 ghost use Rattle.raft_progress.specs.tracked.Tracked.{tracked_view};
 ghost use Rattle.raft_progress.specs.declared.entry.ProgressEntryOf.{ProgressEntryOf};
@@ -16,13 +16,22 @@ use super::Leader;
 use crate::error::HandlerError;
 use crate::message::{Outcome, Response};
 use crate::state::State;
-use raft_base::{Instant, LeaderIdentity, LogIdOf, LogIdOptionExt, Node, NodeId};
+use raft_base::{
+    Instant, LeaderIdentity, LogIdOf, LogIdOptionExt, LogIdRangeOf, LogStateReader, Node, NodeId,
+};
 use raft_progress::{InflightError, InflightOf, Progress, ProgressEntryOf, Tracked};
 use raft_state::RaftStateIn;
 use raft_state::laws::sends_from_log;
 
 impl<NID: NodeId, N: Node, C: Ord + Copy + Drop> Leader<NID, N, C> {
-    /// Returns what to send to a member next, and puts it in flight: entries, or the snapshot.
+    /// Returns what to send to a member next, and puts it in flight: a probe, entries, or the
+    /// snapshot.
+    ///
+    /// If 16 or more indexes are between what the member matches and the searching end, the last
+    /// log id that both logs have is searched for, and no request has more than one entry. Of eight
+    /// requests the first two are probes: they have no entries, and ask whether the member has the
+    /// log id before the searching end. The others halve what is searched. So a member that has the
+    /// whole log is sent none of it again, and if probes are lost, others follow.
     ///
     /// `InflightOf::None` means that there is nothing to send, that something is in flight already,
     /// or that a send is not allowed (`can_send`): send a heartbeat. The result is `None` if the id
@@ -38,15 +47,15 @@ impl<NID: NodeId, N: Node, C: Ord + Copy + Drop> Leader<NID, N, C> {
     {
         // Called for the proof alone: what is sent is from the log.
         sends_from_log::<C>();
-        let sending = self.followers.next_send(to, state, max_entries);
+        let sending = send_next(&mut self.followers, to, state, max_entries);
         self.last_request = number_after(self.last_request, &sending);
         sending
     }
 
-    /// Takes a member's response to a request. An acknowledgement raises the member's match, and a
-    /// conflict lowers the end of the search for it. A response that is late, doubled or does not
-    /// fit what is in flight is refused and changes nothing, and so is a response to another
-    /// leader.
+    /// Takes a member's response to a request. An acknowledgement raises the member's match. A
+    /// conflict lowers the end of the search for it, to where the member's log ends if that is
+    /// lower. A response that is late, doubled or does not fit what is in flight is refused and
+    /// changes nothing, and so is a response to another leader.
     ///
     /// A node that is elected again numbers its requests anew. So the leader id of a response, and
     /// not its number alone, says which request it answers.
@@ -130,6 +139,103 @@ impl<NID: NodeId, N: Node, C: Ord + Copy + Default + Drop + 'static> Leader<NID,
     }
 }
 
+/// The least number of indexes between what a member matches and the searching end for which the
+/// last log id that both logs have is searched for. If there are fewer, they are sent.
+const SEARCHED: u64 = 16;
+
+/// Whether the last log id that both logs have is searched for: there are many indexes between what
+/// a member matches and the searching end.
+fn is_searched<C: Ord + Copy>(entry: &ProgressEntryOf<C>) -> bool
+    ensures { result ≡ is_searched entry.now }
+{
+    entry.can_start() && entry.searching_end - entry.matching.next_index() >= SEARCHED
+}
+
+/// Returns how many entries a request has at most: one in a search, which is enough to halve what
+/// is searched.
+fn limit_of<C: Ord + Copy>(entry: &ProgressEntryOf<C>, max_entries: u64) -> u64
+    ensures { result ≡ limit_of entry.now max_entries }
+{
+    if is_searched(entry) {
+        max_entries.min(1)
+    } else {
+        max_entries
+    }
+}
+
+/// Whether the next request of a search is a probe: of eight numbers, the first two are those of
+/// probes.
+fn is_probe_due<C: Ord + Copy, L: LogStateReader<C>>(entry: &ProgressEntryOf<C>, log: &L) -> bool
+    ensures { result ≡ is_probe_due entry.now (L.log_view log.now) }
+{
+    entry.inflight.is_none()
+        && is_searched(entry)
+        && entry.curr_inflight_id % 8 < 2
+        && entry.can_send(log)
+}
+
+/// Returns what is known of a member with a probe in flight, if one is due and the log has the log
+/// id that the probe asks for: the one before the searching end.
+fn probe_of<C: Ord + Copy, L: LogStateReader<C>>(
+    entry: &ProgressEntryOf<C>,
+    log: &L,
+) -> Option<ProgressEntryOf<C>>
+    ensures { result ≡ after_probe entry.now (L.log_view log.now) }
+{
+    if !is_probe_due(entry, log) {
+        return None;
+    }
+    let id = entry.curr_inflight_id + 1;
+    match log.prev_log_id(entry.searching_end) {
+        Some(prev) => {
+            let log_id_range = LogIdRangeOf::new(Some(prev), Some(prev));
+            let probe = InflightOf::Logs { id, log_id_range };
+            Some(entry.with_curr_inflight_id(id).with_inflight(probe))
+        }
+        None => None,
+    }
+}
+
+/// Puts in flight what is to be sent to a member next, and returns it. The result is `None` for an
+/// unknown id.
+fn send_next<NID: NodeId, N: Node, C: Ord + Copy, L: LogStateReader<C>>(
+    followers: &mut Tracked<NID, N, ProgressEntryOf<C>, Option<LogIdOf<C>>>,
+    to: &NID,
+    log: &L,
+    max_entries: u64,
+) -> Option<InflightOf<C>>
+    ensures unknown { member_value NID.eq (tracked_view followers.old) to.now ≡ None →
+        result ≡ None }
+    ensures sent { (entry next : ProgressEntryOf C) →
+        member_value NID.eq (tracked_view followers.old) to.now ≡ Some entry →
+        after_send C.cmp entry (L.log_view log.now) max_entries ≡ Some next →
+        result ≡ Some next.inflight }
+    ensures in_flight { (entry next : ProgressEntryOf C) →
+        member_value NID.eq (tracked_view followers.old) to.now ≡ Some entry →
+        after_send C.cmp entry (L.log_view log.now) max_entries ≡ Some next →
+        WritesMember NID.eq (tracked_view followers.old) to.now next
+        (tracked_view followers.new) }
+    ensures heartbeat { (entry : ProgressEntryOf C) →
+        member_value NID.eq (tracked_view followers.old) to.now ≡ Some entry →
+        after_send C.cmp entry (L.log_view log.now) max_entries ≡ None → result ≡ Some Idle }
+    ensures unchanged { result ≡ None → tracked_view followers.new ≡ tracked_view followers.old }
+    ensures unchanged_by_heartbeat { (entry : ProgressEntryOf C) →
+        member_value NID.eq (tracked_view followers.old) to.now ≡ Some entry →
+        after_send C.cmp entry (L.log_view log.now) max_entries ≡ None →
+        tracked_view followers.new ≡ tracked_view followers.old }
+    ensures default { (tracked_view followers.new).progress.default_part
+        ≡ (tracked_view followers.old).progress.default_part }
+{
+    let Some(entry) = followers.progress().try_get(to).copied() else {
+        return None;
+    };
+    if let Some(probing) = probe_of(&entry, log) {
+        let _reply = followers.update(to, probing);
+        return Some(probing.inflight);
+    }
+    followers.next_send(to, log, limit_of(&entry, max_entries))
+}
+
 /// Returns the greatest number of a request, once this is sent.
 fn number_after<C>(last: u64, sending: &Option<InflightOf<C>>) -> u64
     ensures { result ≡ number_after last sending.now }
@@ -162,8 +268,47 @@ fn take_response<NID: NodeId, N: Node, L, C: Ord + Copy>(
             Some(request) => refuse(followers.acknowledge(from, request, upto)),
             None => if_known(followers, from, Ok(())),
         },
-        Outcome::Conflict(index) => refuse(followers.conflict(from, response.request, index)),
+        Outcome::Conflict { index, last } => {
+            refuse(take_conflict(followers, from, response.request, index, last))
+        }
         Outcome::HigherVote(_) => if_known(followers, from, Err(HandlerError::HigherVote)),
+    }
+}
+
+/// Takes a conflict: the search ends at its index, or where the member's log ends. A hint that
+/// cannot be right is dropped.
+#[inline(always)]
+fn take_conflict<NID: NodeId, N: Node, C: Ord + Copy>(
+    followers: &mut Tracked<NID, N, ProgressEntryOf<C>, Option<LogIdOf<C>>>,
+    from: &NID,
+    request: Option<u64>,
+    index: u64,
+    last: Option<u64>,
+) -> Option<Result<(), InflightError>>
+    ensures step { IsResponse (member_value NID.eq (tracked_view followers.old) from.now)
+        (λ entry. after_conflict entry request index last)
+        (λ next. WritesMember NID.eq (tracked_view followers.old) from.now next
+        (tracked_view followers.new))
+        (tracked_view followers.old) result (tracked_view followers.new) }
+    ensures default { (tracked_view followers.new).progress.default_part
+        ≡ (tracked_view followers.old).progress.default_part }
+    ensures monotone { IsTrue (id_le C.cmp (tracked_view followers.old).progress.granted
+        (tracked_view followers.new).progress.granted) }
+{
+    let taken = followers.conflict(from, request, index);
+    if let Some(Ok(())) = taken {
+        let _hint = followers.conflict(from, None, end_after(last));
+    }
+    taken
+}
+
+/// Returns the index after the last one of a log, or the greatest index if there is none.
+fn end_after(last: Option<u64>) -> u64
+    ensures { result ≡ end_after last }
+{
+    match last {
+        Some(index) => index.saturating_add(1),
+        None => 0,
     }
 }
 

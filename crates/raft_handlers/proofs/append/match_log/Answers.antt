@@ -21,6 +21,6 @@ returns-in_err-truncated_from-clause-refuses g c =
 
 pub returns-in-Some-clause-writes : goal.returns-in-Some-clause-writes
 returns-in-Some-clause-writes g c =
-    conflict_written _ c.args.request.now.entries.items g.met.C.Ord.total g.met.C.Eq.laws c.in-Some.at
+    conflict_written _ c.args.request.now.entries.items g.met.C.Ord.total g.met.C.Eq.laws c.in-Some.at _
     c.in_ok-truncated_from.truncated_from c.args.state.now c.cut.new.state c.in_ok-truncated_from.ensures.truncated
     (ap (λ s. s.committed) c.in_ok-truncated_from.ensures.cut.rest)

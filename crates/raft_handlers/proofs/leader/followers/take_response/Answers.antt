@@ -1,25 +1,22 @@
 use Rattle.std.proofs.Common.{◌≡◌, ◌∙◌, ap, refl}
 use Rattle.std.specs.Option.{option_cmp}
 use Rattle.raft_base.specs.LogId.{log_id_cmp}
-use Rattle.raft_progress.specs.entry.EntryTable.{entry_after_ack, entry_after_conflict}
-use Rattle.raft_progress.specs.tracked.Followers.{member_value, with_member_value}
+use Rattle.raft_progress.specs.entry.EntryTable.{entry_after_ack}
+use Rattle.raft_progress.specs.tracked.Followers.{member_value}
 use Rattle.raft_progress.specs.tracked.SingleSteps.{IsTrackedUpdate}
 use Rattle.raft_progress.specs.tracked.Tracked.{tracked_view}
 use Rattle.raft_progress.specs.declared.entry.ProgressEntryOf.{ProgressEntryOf}
 use Rattle.raft_progress.specs.declared.progress.steps.Reply.TheVariants.{Granted}
 use Rattle.raft_handlers.specs.Leadership.{WritesMember}
-use Rattle.raft_handlers.specs.Responses.{after_outcome, after_response, as_refused}
+use Rattle.raft_handlers.specs.Responses.{after_conflict, after_outcome, after_response, as_refused}
 use Rattle.raft_handlers.specs.declared.error.HandlerError.TheVariants.{HigherVote}
 use Rattle.raft_handlers.proofs.lemmas.FollowerLemmas.{id_le-refl}
 use Rattle.raft_handlers.proofs.lemmas.SendLemmas.{
   ack_default,
   ack_rises,
   answers_known,
-  conflict_default,
-  conflict_rises,
   conflict_table,
   member_stays,
-  member_written,
   refused_response,
   refuses_known,
   vote_table,
@@ -71,27 +68,18 @@ returns-in-Conflict-clause-step g c =
     let eq = g.NID.PartialEq.eq in
     let cmp = g.C.Ord.cmp in
     let old = tracked_view c.args.followers.now in
-    let new = tracked_view c.conflict.new.self in
+    let new = tracked_view c.take_conflict.new.followers in
     let from = c.args.from.now in
     let request = c.args.response.now.request in
     let index = c.in-Conflict.index in
+    let last = c.in-Conflict.last in
     let table : (entry : ProgressEntryOf g.row.C.Denot) → after_response cmp entry c.args.response.now
-    ≡ as_refused (entry_after_conflict entry request index) =
-    λ entry. ap (after_outcome cmp entry request) c.in-Conflict.is ∙ conflict_table g.row.L.Denot cmp entry request index in
-    rw c.refuse-in-Conflict.ensures (refused_response (member_value eq old from) (λ entry. entry_after_conflict entry request index)
-    (λ entry. after_response cmp entry c.args.response.now) (λ next. new ≡ with_member_value eq old from next)
+    ≡ as_refused (after_conflict entry request index last) =
+    λ entry. ap (after_outcome cmp entry request) c.in-Conflict.is ∙ conflict_table g.row.L.Denot cmp entry request index last in
+    rw c.refuse-in-Conflict.ensures (refused_response (member_value eq old from) (λ entry. after_conflict entry request index last)
+    (λ entry. after_response cmp entry c.args.response.now) (λ next. WritesMember eq old from next new)
     (λ next. WritesMember eq old from next new) old new table
-    (λ entry next known is. member_written g.met.NID.Eq.laws old new from entry next known is) c.conflict.result c.conflict.ensures)
-
-pub returns-in-Conflict-clause-default : goal.returns-in-Conflict-clause-default
-returns-in-Conflict-clause-default g c =
-    conflict_default g.NID.PartialEq.eq g.met.C.Ord.total (tracked_view c.args.followers.now) (tracked_view c.conflict.new.self)
-    c.args.from.now c.args.response.now.request c.in-Conflict.index c.conflict.result c.conflict.ensures
-
-pub returns-in-Conflict-clause-monotone : goal.returns-in-Conflict-clause-monotone
-returns-in-Conflict-clause-monotone g c =
-    conflict_rises g.NID.PartialEq.eq g.met.C.Ord.total (tracked_view c.args.followers.now) (tracked_view c.conflict.new.self)
-    c.args.from.now c.args.response.now.request c.in-Conflict.index c.conflict.result c.conflict.ensures
+    (λ entry next known is. is) c.take_conflict.result c.take_conflict.ensures.step)
 
 pub returns-in-HigherVote-clause-step : goal.returns-in-HigherVote-clause-step
 returns-in-HigherVote-clause-step g c =
