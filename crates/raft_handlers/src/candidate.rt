@@ -9,11 +9,14 @@ ghost use Rattle.raft_state.specs.raft_state.VoteAndLog.{vote_of};
 use crate::error::HandlerError;
 use crate::message::{VoteRequest, VoteResponse};
 use crate::state::State;
-use raft_base::{Instant, LeaderIdentity, LogIdOf, LogStateReader, Node, NodeId, VoteIn};
+use raft_base::{
+    DisplayOption, Instant, LeaderIdentity, LogIdOf, LogStateReader, Node, NodeId, VoteIn,
+};
 use raft_members::membership::Configs;
 use raft_progress::laws::{granted_is_threshold, quorums_know_granted};
 use raft_progress::{Progress, Tracked};
 use raft_state::{RaftStateIn, VoteStateReader};
+use std::fmt;
 use std::marker::Model;
 
 /// Whether a node may campaign and lead: it is a voter of the effective or of the committed
@@ -152,5 +155,33 @@ impl<
         ensures { result ≡ self.now.vote }
     {
         self.vote
+    }
+}
+
+/// The first line has the candidate's vote, and its last log id. Each member has a further line.
+// Handwritten, because each member has a line of its own.
+impl<NID: NodeId, N: Node, L: fmt::Display, C: fmt::Display + Copy> fmt::Display
+    for Candidate<NID, N, L, C> {
+    fn fmt<W: fmt::Write>(&self, f: &mut fmt::Formatter<W>) -> fmt::Result {
+        let Candidate {
+            id,
+            vote,
+            last_log_id,
+            votes,
+        } = self;
+        write!(
+            f,
+            "candidate {id}, vote {vote}, last log id {}",
+            DisplayOption(last_log_id)
+        )?;
+        for (id, has_voted) in votes.progress().iter() {
+            let said = if *has_voted {
+                "has voted"
+            } else {
+                "has not voted"
+            };
+            write!(f, "\n  {id} {said}")?;
+        }
+        Ok(())
     }
 }

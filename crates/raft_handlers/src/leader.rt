@@ -15,6 +15,7 @@ mod change;
 mod commit;
 mod followers;
 mod propose;
+mod show;
 mod step_down;
 
 use crate::candidate::Candidate;

@@ -1,13 +1,14 @@
 //! Debug texts of requests, candidates and leaders, over standard Raft's leader ids.
 
 use crate::candidate::candidate;
+use crate::leader::Led;
 use crate::snapshot::Install;
 use crate::states::{StateOf, entries, voter};
 use raft_base::leader_id_std::{CommittedLeaderId, LeaderId};
 use raft_base::{EmptyNode, LeaderStd, VoteOf};
 use raft_handlers::{AppendEntries, HandlerError, Leader};
 use raft_state::SnapshotMetaOf;
-use raft_testing::printing::debugs;
+use raft_testing::printing::{debugs, displays};
 use std::alloc::{AllocError, Global};
 use std::fmt::Debug;
 use std::test::Fail;
@@ -37,6 +38,18 @@ const CANDIDATE: &str =
 const LEADER: &str =
     "Leader { id: 1, leader_id: CommittedLeaderId { term: 6 }, followers: Tracked { \
     membership: Membership { configs: [{1, 2, 3}], nodes: ";
+
+/// What the candidate of term 6 displays, which all elect.
+const VOTES: &str = "candidate 1, vote T6-N1:uncommitted, last log id 2-4\n\
+    \x20 1 has voted\n\
+    \x20 2 has voted\n\
+    \x20 3 has voted";
+
+/// What a leader of term 3 displays, whose own entry only node 3 lacks.
+const MEMBERS: &str = "leader 1 of 3, granted 3-5\n\
+    \x20 1 ###### {[3-5, 6), inflight:None}\n\
+    \x20 2 ###### {[3-5, 6), inflight:None}\n\
+    \x20 3 ?????. {[None, 5), inflight:None}";
 
 /// Whether the debug text of a value begins with a text.
 fn begins<T: Debug>(alloc: Global, value: &T, text: &str) -> bool {
@@ -72,7 +85,18 @@ fn install_prints(alloc: Global) -> Result<bool, AllocError> {
 fn node_prints(alloc: Global, state: &mut StateOf<LeaderStd>) -> Result<bool, HandlerError> {
     let candidate = candidate::<LeaderStd>(state)?;
     let leader = Leader::new(state, &candidate)?;
-    Ok(begins(alloc, &candidate, CANDIDATE) && begins(alloc, &leader, LEADER))
+    let are_right = [
+        begins(alloc, &candidate, CANDIDATE),
+        begins(alloc, &leader, LEADER),
+        displays(alloc, &candidate, VOTES),
+    ];
+    Ok(are_right == [true; 3])
+}
+
+/// Whether a leader displays its members.
+fn members_display(alloc: Global) -> Result<bool, HandlerError> {
+    let led = Led::<LeaderStd>::committed(alloc)?;
+    Ok(displays(alloc, &led.leader, MEMBERS))
 }
 
 #[test]
@@ -83,7 +107,8 @@ fn requests_and_nodes_print(rt: HostRuntime) -> Result<(), Fail> {
         append_prints(alloc) == Ok(true),
         install_prints(alloc) == Ok(true),
         node_prints(alloc, &mut state) == Ok(true),
+        members_display(alloc) == Ok(true),
     ];
-    assert!(rt; are_right == [true; 3]);
+    assert!(rt; are_right == [true; 4]);
     Ok(())
 }
