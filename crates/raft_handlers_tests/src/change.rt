@@ -3,12 +3,13 @@
 use crate::asserts::assert_right;
 use crate::leader::Led;
 use crate::states::{Entry, Row, StateOf, id, members_of, voter};
-use raft_base::{LeaderAdv, LeaderKind, LeaderStd};
+use raft_base::{EmptyNode, LeaderAdv, LeaderKind, LeaderStd};
 use raft_handlers::{ChangeError, HandlerError, Outcome};
 use raft_members::{ChangeMembers, ChangeMembershipErrorOf, EffectiveMembershipOf};
+use raft_progress::InflightError;
 use raft_state::MembershipStateOf;
 use std::alloc::{AllocError, Global};
-use std::collections::BTreeSet;
+use std::collections::{BTreeMap, BTreeSet};
 use std::test::Fail;
 
 /// What a leader is asked for.
@@ -139,6 +140,61 @@ fn fails<K: LeaderKind<u64>>(alloc: Global) -> Result<Option<&'static str>, Hand
 fn a_member_leaves_in_two_steps(rt: HostRuntime) -> Result<(), Fail> {
     assert_right(&rt, "default leader ids", fails::<LeaderAdv>(rt.alloc())?);
     assert_right(&rt, "standard leader ids", fails::<LeaderStd>(rt.alloc())?);
+    Ok(())
+}
+
+/// A response to the request 1, which is not in flight.
+fn late(mine: Option<u64>) -> Result<(), HandlerError> {
+    Err(HandlerError::ResponseRefused(InflightError::InvalidRequestId { mine, received: 1 }))
+}
+
+impl<K: LeaderKind<u64>> Led<K> {
+    /// Adds node 3 as a learner.
+    fn add(&mut self, alloc: Global) -> Result<bool, AllocError> {
+        let nodes: BTreeMap<u64, EmptyNode> = Some((3, EmptyNode::new()))
+            .into_iter()
+            .collect(alloc)?;
+        let change = ChangeMembers::AddNodes(nodes);
+        let made: Result<Entry<K>, _> = self.leader.propose_change(&mut self.state, change, false);
+        Ok(made.is_ok())
+    }
+
+    /// Node 3 acknowledges the request 1.
+    fn take_first(&mut self) -> Result<(), HandlerError> {
+        self.take(3, 1, Outcome::Matches(id::<K>(Some((3, 5)))))
+    }
+
+    /// Sends the request 1 to node 3, removes the node, and adds it again. Returns whether the
+    /// response to the request is refused then, before another request is sent and after it.
+    fn refuses_earlier_life(&mut self, alloc: Global) -> Result<bool, HandlerError> {
+        let _sent = self.leader.next_request(&self.state, &3, 8);
+        let _joint = self.change(alloc, Step::Change(&[1, 2]), None)?;
+        let _more = self.commit_upto(2, 6)?;
+        let _left = self.change(alloc, Step::Leave, None)?;
+        let _more = self.commit_upto(3, 7)?;
+        let is_gone = self.leader.member(&3).is_none();
+        let is_added = self.add(alloc)?;
+        let before = self.take_first();
+        let _sent = self.leader.next_request(&self.state, &3, 8);
+        let are_right = [
+            is_gone,
+            is_added,
+            before == late(None),
+            self.take_first() == late(Some(4)),
+        ];
+        Ok(are_right == [true; 4])
+    }
+}
+
+/// Whether a leader refuses the response of a node's earlier life.
+fn refuses<K: LeaderKind<u64>>(alloc: Global) -> Result<bool, HandlerError> {
+    let mut led = Led::<K>::committed(alloc)?;
+    led.refuses_earlier_life(alloc)
+}
+
+#[test]
+fn request_numbers_never_repeat(rt: HostRuntime) -> Result<(), Fail> {
+    assert!(rt; refuses::<LeaderStd>(rt.alloc())?);
     Ok(())
 }
 
