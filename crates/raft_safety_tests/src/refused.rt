@@ -121,3 +121,76 @@ fn accepts_a_late_vote_and_a_config_with_one_server_more(rt: HostRuntime) -> Res
     check(alloc, three(alloc)?, &events)?;
     Ok(())
 }
+
+/// Server 2 takes two entries of server 0, the leader of term 1. It leaves terms 1 and 2, writes an
+/// entry as the leader of term 3, and leaves this term too.
+fn left_terms(alloc: Global) -> Result<Vec<Recorded>, AllocError> {
+    let mut events = vec![in alloc;
+        campaigned(0, 1),
+        granted(1, 1, 0),
+        wrote(0, 1, (1, 10)),
+        wrote(0, 1, (1, 11)),
+        wrote(0, 1, (1, 12)),
+    ]?;
+    events.push(appended(alloc, (2, 1, 0), 0, (1, 10))?)?;
+    events.push(appended(alloc, (2, 1, 0), 1, (1, 11))?)?;
+    events.extend([
+        campaigned(2, 2),
+        campaigned(2, 3),
+        granted(1, 3, 2),
+        wrote(2, 3, (3, 13)),
+        appended(alloc, (2, 3, 2), 2, (3, 13))?,
+        campaigned(2, 4),
+        granted(1, 4, 2),
+    ])?;
+    Ok(events)
+}
+
+/// Whether server 2 may acknowledge so many entries to the leader of a term after these events.
+fn may_ack(
+    alloc: Global,
+    events: Vec<Recorded>,
+    (term, leader): (u64, u64),
+    len: usize,
+) -> Result<bool, AllocError> {
+    let mut events = events;
+    let refused = Refused {
+        event: events.len(),
+        violation: Violation::Rule(Rule::NotKept),
+    };
+    events.push(acked(2, term, leader, len))?;
+    match check(alloc, three(alloc)?, &events) {
+        Ok(()) => Ok(true),
+        Err(error) if error == refused => Ok(false),
+        Err(_) => Err(AllocError),
+    }
+}
+
+#[test]
+fn late_acknowledgements_of_what_was_kept(rt: HostRuntime) -> Result<(), Fail> {
+    let alloc = rt.alloc();
+    // The server has lost all entries but the first, and then takes the second again, in term 4.
+    for (lost, again, leader, len, is_allowed) in [
+        (false, false, (1, 0), 2, true),
+        (false, false, (1, 0), 3, false),
+        (false, false, (3, 2), 3, true),
+        (true, false, (1, 0), 1, true),
+        (true, false, (1, 0), 2, false),
+        (true, false, (3, 2), 1, true),
+        (true, false, (3, 2), 2, false),
+        (true, true, (1, 0), 1, true),
+        (true, true, (1, 0), 2, false),
+        (true, true, (3, 2), 2, false),
+        (true, true, (4, 2), 2, true),
+    ] {
+        let mut events = left_terms(alloc)?;
+        if lost {
+            events.push(restarted(2, 1))?;
+        }
+        if again {
+            events.push(appended(alloc, (2, 4, 2), 1, (1, 11))?)?;
+        }
+        assert!(rt; may_ack(alloc, events, leader, len)? == is_allowed, "{len}");
+    }
+    Ok(())
+}
