@@ -17,6 +17,7 @@ pub mod CheckedServerLemmas
 pub mod CheckedLeaderLemmas
 pub mod CheckerLemmas
 pub mod StateLemmas
+pub mod PlaceLemmas
 pub mod CheckerStepLemmas
 pub mod CheckerCodeLemmas
 pub mod RankLemmas

@@ -23,6 +23,7 @@ use Rattle.raft_safety.specs.Trace.{
 use Rattle.raft_safety.specs.Inner.CheckerState.{LeaderState, ServerState, config_in, knows}
 use Rattle.raft_safety.specs.Inner.Kept.{HaveLogs, Parts, leaders_in, servers_in}
 use Rattle.raft_safety.specs.Inner.Logs.{AreLogs}
+use Rattle.raft_safety.specs.Inner.Places.{ArePlaced}
 use Rattle.raft_safety.specs.Inner.Seen.{SeesServers, SeesLeaders}
 use Rattle.raft_safety.specs.declared.checker.violation.Violation.{Violation}
 use Rattle.raft_safety.specs.declared.checker.violation.Violation.TheVariants.{OutOfMemory, Rule as BreaksRule}
@@ -56,6 +57,7 @@ module _ {T ID D : Type 0} (k : Tests T ID D (Option D)) where
   pub record Keeps (es : List (TraceEvent T ID D)) (p : Parts T ID D) : Type 0 where
     pub are_logs : AreLogs (λ d. is_some (k.config_of d)) p.logs
     pub have_logs : HaveLogs p
+    pub placed : ArePlaced k.rank p.places p.leaders
     pub seen : HasSeen es (servers_in p) (leaders_in p)
 
 -- what the checker compares by: ranks and equality, as the types have them, and the configs, as
@@ -92,7 +94,12 @@ configs_of c = c.configs
 
 -- what a checker keeps
 abbrev pub kept_by : {T ID D C : Type 0} → Checker T ID D C → Parts T ID D
-kept_by c = record { logs = c.logs; servers = c.servers.items; leaders = c.leaders.items }
+kept_by c = record {
+  logs = c.logs;
+  servers = c.servers.items;
+  leaders = c.leaders.items;
+  places = c.places.entries;
+}
 
 -- an event is refused for the rule that it breaks, or for memory
 abbrev pub IsRefusal : Option Rule → Violation → Type 0

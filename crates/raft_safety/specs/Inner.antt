@@ -3,5 +3,6 @@ pub mod CheckerState
 pub mod Logs
 pub mod TermsState
 pub mod Nodes
+pub mod Places
 pub mod Kept
 pub mod Seen

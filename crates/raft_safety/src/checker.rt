@@ -1,7 +1,6 @@
 //! The checker of recorded events: whether each event was allowed by what came before.
-ghost use Rattle.std.specs.Prelude.{◌≡◌, ◌<◌, ◌&&◌, IfOk, IfSome, OnErr, length, map};
-ghost use Rattle.std.specs.VecDeque.{deque_len};
-ghost use Rattle.std.specs.List.{list_any, position};
+ghost use Rattle.std.specs.Prelude.{◌≡◌, ◌<◌, IfOk, OnErr, length, map};
+ghost use Rattle.std.specs.List.{list_any};
 ghost use Rattle.raft_safety.specs.Inner.CheckerState.{knows, same_entry_by};
 ghost use Rattle.raft_safety.specs.Inner.Kept.{IsAt, leader_in};
 ghost use Rattle.raft_safety.specs.Inner.Logs.{AreDistinct, IsExact, log_at};
@@ -13,6 +12,7 @@ mod configs;
 mod leader;
 mod logs;
 mod node;
+mod places;
 mod server;
 mod terms;
 mod violation;
@@ -28,6 +28,7 @@ use broken::{
 pub use configs::Configs;
 use leader::Leader;
 use logs::Logs;
+use places::{Places, leader_at, note_place};
 use server::Server;
 use std::alloc::{AllocError, Global};
 use std::collections::VecDeque;
@@ -46,6 +47,8 @@ pub struct Checker<T, N, D, C> {
     servers: Vec<Server<N>>,
     /// The newest leader is first, because most events are about it.
     leaders: VecDeque<Leader<T, N>>,
+    /// By it the leaders of a rank are found.
+    places: Places,
     alloc: Global,
 }
 
@@ -67,6 +70,7 @@ impl<T: Term, N: Copy + Eq, D: Copy + Eq, C: Configs<N, D> + Drop> Checker<T, N,
             logs: Logs::new(alloc),
             servers: Vec::new(alloc),
             leaders: VecDeque::new(alloc),
+            places: Places::new(alloc),
             alloc,
         })
     }
@@ -136,7 +140,7 @@ impl<T: Term, N: Copy + Eq, D: Copy + Eq, C: Configs<N, D> + Drop> Checker<T, N,
         // A server has reached each term in which it has campaigned. So a campaign in a later term is
         // no second one, and no leader has to be searched for.
         if rank <= self.servers[i].term() {
-            match leader_at(&self.leaders, term, server) {
+            match leader_at(&self.leaders, &self.places, term, server) {
                 Some(_) => return Err(Violation::Rule(Rule::CampaignedTwice)),
                 None => return Err(Violation::Rule(Rule::PassedTerm)),
             }
@@ -155,6 +159,7 @@ impl<T: Term, N: Copy + Eq, D: Copy + Eq, C: Configs<N, D> + Drop> Checker<T, N,
             voter.log,
             len,
         )?;
+        note_place(&mut self.places, rank, self.leaders.len())?;
         voter.reach(rank, len);
         self.leaders.push_front_reserved(leader);
         Ok(())
@@ -167,7 +172,7 @@ impl<T: Term, N: Copy + Eq, D: Copy + Eq, C: Configs<N, D> + Drop> Checker<T, N,
             (tests_of T.Term N.PartialEq D.PartialEq C.Configs self.old.configs)
             (Granted server term candidate) (kept_by self.old) (kept_by self.new) result }
     {
-        let j = match leader_at(&self.leaders, term, candidate) {
+        let j = match leader_at(&self.leaders, &self.places, term, candidate) {
             Some(j) => j,
             None => return Err(Violation::Rule(Rule::NoCampaign)),
         };
@@ -217,7 +222,7 @@ impl<T: Term, N: Copy + Eq, D: Copy + Eq, C: Configs<N, D> + Drop> Checker<T, N,
             (Appended server term leader keep entries.now) (kept_by self.old)
             (kept_by self.new) result }
     {
-        let j = match leader_at(&self.leaders, term, leader) {
+        let j = match leader_at(&self.leaders, &self.places, term, leader) {
             Some(j) => j,
             None => return Err(Violation::Rule(Rule::NotElected)),
         };
@@ -249,7 +254,7 @@ impl<T: Term, N: Copy + Eq, D: Copy + Eq, C: Configs<N, D> + Drop> Checker<T, N,
             (tests_of T.Term N.PartialEq D.PartialEq C.Configs self.old.configs)
             (Acked server term leader len) (kept_by self.old) (kept_by self.new) result }
     {
-        let j = match leader_at(&self.leaders, term, leader) {
+        let j = match leader_at(&self.leaders, &self.places, term, leader) {
             Some(j) => j,
             None => return Err(Violation::Rule(Rule::NotElected)),
         };
@@ -288,7 +293,7 @@ impl<T: Term, N: Copy + Eq, D: Copy + Eq, C: Configs<N, D> + Drop> Checker<T, N,
             (tests_of T.Term N.PartialEq D.PartialEq C.Configs self.old.configs)
             (Wrote leader term entry) (kept_by self.old) (kept_by self.new) result }
     {
-        let j = match leader_at(&self.leaders, term, leader) {
+        let j = match leader_at(&self.leaders, &self.places, term, leader) {
             Some(j) => j,
             None => return Err(Violation::Rule(Rule::NotElected)),
         };
@@ -315,7 +320,7 @@ impl<T: Term, N: Copy + Eq, D: Copy + Eq, C: Configs<N, D> + Drop> Checker<T, N,
             (tests_of T.Term N.PartialEq D.PartialEq C.Configs self.old.configs)
             (Committed leader term len counted_at) (kept_by self.old) (kept_by self.new) result }
     {
-        let j = match leader_at(&self.leaders, term, leader) {
+        let j = match leader_at(&self.leaders, &self.places, term, leader) {
             Some(j) => j,
             None => return Err(Violation::Rule(Rule::NotElected)),
         };
@@ -341,7 +346,7 @@ impl<T: Term, N: Copy + Eq, D: Copy + Eq, C: Configs<N, D> + Drop> Checker<T, N,
             (tests_of T.Term N.PartialEq D.PartialEq C.Configs self.old.configs)
             (Applied server term leader len) (kept_by self.old) (kept_by self.new) result }
     {
-        let j = match leader_at(&self.leaders, term, leader) {
+        let j = match leader_at(&self.leaders, &self.places, term, leader) {
             Some(j) => j,
             None => return Err(Violation::Rule(Rule::NotElected)),
         };
@@ -356,24 +361,6 @@ impl<T: Term, N: Copy + Eq, D: Copy + Eq, C: Configs<N, D> + Drop> Checker<T, N,
         }
         Ok(())
     }
-}
-
-/// Returns the position of a candidate or leader of a term, if it has campaigned.
-fn leader_at<T: Term, N: Copy + Eq>(
-    leaders: &VecDeque<Leader<T, N>>,
-    term: T,
-    id: N,
-) -> Option<usize>
-    ensures place { result ≡ position (λ l. T.eq l.term term && N.eq l.id id) leaders.now.items }
-    ensures within { IfSome result (λ j. j < deque_len leaders.now) }
-{
-    for j in 0..leaders.len() {
-        let leader = &leaders[j];
-        if leader.term == term && leader.id == id {
-            return Some(j);
-        }
-    }
-    None
 }
 
 /// Whether a leader of a term of at most this rank has committed these entries.

@@ -54,7 +54,6 @@ use Rattle.raft_safety.specs.Trace.{
 }
 use Rattle.raft_safety.specs.Inner.CheckerState.{common_len, kept_from, kept_after}
 use Rattle.raft_safety.specs.Inner.Seen.{SeesServer, SeesServers, kept_at, find_server}
-use Rattle.raft_safety.specs.declared.checker.terms.Kept.{Kept}
 use Rattle.raft_safety.specs.Inner.CheckerState.{ServerState}
 use Rattle.raft_safety.proofs.lemmas.PrefixLemmas.{prefix_length}
 use Rattle.raft_safety.proofs.lemmas.TestLemmas.{or_cases, leader_right, prefix_right, entry_right, entry_itself}

@@ -109,6 +109,7 @@ use Rattle.raft_safety.specs.Inner.Kept.{
   servers_in,
 }
 use Rattle.raft_safety.specs.Inner.Logs.{AllLogs, AreLogs, HasConfig, IsChild, IsExact, config_at, log_at, no_logs}
+use Rattle.raft_safety.specs.Inner.Places.{first_of, place_of}
 use Rattle.raft_safety.specs.Inner.Seen.{SeesServer, SeesLeader}
 use Rattle.raft_safety.specs.Checker.{HasSeen, Keeps}
 use Rattle.raft_safety.specs.declared.rule.Rule.TheVariants.{
@@ -127,6 +128,7 @@ use Rattle.raft_safety.specs.declared.checker.server.Server.{Server}
 use Rattle.raft_safety.specs.declared.checker.leader.Leader.{Leader}
 use Rattle.raft_safety.proofs.lemmas.TestLemmas.{entry_itself, entry_right}
 use Rattle.raft_safety.proofs.lemmas.CheckedLeaderLemmas.{found_some}
+use Rattle.raft_safety.proofs.lemmas.PlaceLemmas.{placed_more, placed_set}
 use Rattle.raft_safety.proofs.lemmas.CheckerLemmas.{
   LeaderIs,
   ack_right,
@@ -235,16 +237,19 @@ module _ {D : Type 0} (holds : D → Bool) where
 module _ {T N D : Type 0} where
   -- other servers, another server or another leader
   abbrev pub with_servers : Parts T N D → List (Server N) → Parts T N D
-  with_servers p new = record { logs = p.logs; servers = new; leaders = p.leaders }
+  with_servers p new = record { logs = p.logs; servers = new; leaders = p.leaders; places = p.places }
 
   abbrev pub with_server : Parts T N D → ℕ → Server N → Parts T N D
   with_server p i s = with_servers p (set p.servers i s)
 
   abbrev pub with_leaders : Parts T N D → List (Leader T N) → Parts T N D
-  with_leaders p new = record { logs = p.logs; servers = p.servers; leaders = new }
+  with_leaders p new = record { logs = p.logs; servers = p.servers; leaders = new; places = p.places }
 
   abbrev pub with_leader : Parts T N D → ℕ → Leader T N → Parts T N D
   with_leader p j l = with_leaders p (set p.leaders j l)
+
+  abbrev pub with_places : Parts T N D → List (ℕ × (ℕ × ℕ)) → Parts T N D
+  with_places p new = record { logs = p.logs; servers = p.servers; leaders = p.leaders; places = new }
 
   have_server : (p : Parts T N D) (i : ℕ) (new : Server N) → HaveLogs p → i < length p.servers
       → new.log < length p.logs.logs → HaveLogs (with_server p i new)
@@ -318,13 +323,14 @@ module _ {D : Type 0} (holds : D → Bool) (T : Type 0) where
   }
 
 module _ {T ID D : Type 0} (k : Tests T ID D (Option D)) where
-  pub starts : k.intersect k.initial k.initial ≡ true → Keeps k [] (record { logs = no_logs; servers = []; leaders = [] })
+  pub starts : k.intersect k.initial k.initial ≡ true → Keeps k [] (record { logs = no_logs; servers = []; leaders = []; places = [] })
   starts intersect = record {
     are_logs = no_logs_are (λ d. is_some (k.config_of d)) T;
     have_logs = record {
       of_servers = λ i s h e. absurd (omega (arith, h));
       of_leaders = λ i l h e. absurd (omega (arith, h));
     };
+    placed = λ i l h e. absurd (omega (arith, h));
     seen = record {
       allowed = intersect;
       see_servers = λ id. refl;
@@ -415,6 +421,7 @@ module _ {T ID D : Type 0} (k : Tests T ID D (Option D)) (exact : AreExact k) wh
   keeps_at es id p new i at keeps = record {
     are_logs = keeps.are_logs;
     have_logs = have_at p id new i keeps.are_logs.some keeps.have_logs at;
+    placed = keeps.placed;
     seen = see_place k exact es id (servers_in p) (map (server_in p.logs) new) i (leaders_in p)
         (at_place p id new i keeps.are_logs.empty at) keeps.seen;
   }
@@ -455,17 +462,19 @@ module _ {T ID D : Type 0} (k : Tests T ID D (Option D)) (exact : AreExact k) wh
   keeps_server es p i new at within seen old keeps = record {
     are_logs = keeps.are_logs;
     have_logs = have_server p i new keeps.have_logs at within;
+    placed = keeps.placed;
     seen = subst (λ (l : List (ServerState T ID D)). HasSeen k es l (leaders_in p))
         (sym (map-set (server_in p.logs) p.servers i new)) seen;
   }
 
-  keeps_leader : (es : List (TraceEvent T ID D)) (p : Parts T ID D) (j : ℕ) (new : Leader T ID)
-      → j < length p.leaders → new.log < length p.logs.logs
+  keeps_leader : (es : List (TraceEvent T ID D)) (p : Parts T ID D) (j : ℕ) (l new : Leader T ID)
+      → j < length p.leaders → l ≡ get_or p.leaders j l → new.term ≡ l.term → new.log < length p.logs.logs
       → HasSeen k es (servers_in p) (set (leaders_in p) j (leader_in p.logs new))
       → (old : List (TraceEvent T ID D)) → Keeps k old p → Keeps k es (with_leader p j new)
-  keeps_leader es p j new at within seen old keeps = record {
+  keeps_leader es p j l new at is same within seen old keeps = record {
     are_logs = keeps.are_logs;
     have_logs = have_leader p j new keeps.have_logs at within;
+    placed = placed_set k.rank p.places p.leaders j l new at is same keeps.placed;
     seen = subst (λ (l : List (LeaderState T ID D)). HasSeen k es (servers_in p) l)
         (sym (map-set (leader_in p.logs) p.leaders j new)) seen;
   }
@@ -643,7 +652,7 @@ module _ {T ID D : Type 0} (k : Tests T ID D (Option D)) (exact : AreExact k) wh
       → LeaderIs (leader_in p.logs new) l.term l.id l.start (log_at p.logs l.log) l.voters.items l.elected l.committed
       → new.log ≡ l.log → Keeps k es (with_leader p j new)
   same_leader_again es p t c j l new at is keeps acked same log =
-      keeps_leader es p j new within (rw log (keeps.have_logs.of_leaders j l within is))
+      keeps_leader es p j l new within is same.term (rw log (keeps.have_logs.of_leaders j l within is))
       (subst (λ (x : List (LeaderState T ID D)). HasSeen k es (servers_in p) x) (sym back) keeps.seen) es keeps
     where
       within : j < length p.leaders
@@ -720,12 +729,13 @@ module _ {T ID D : Type 0} (k : Tests T ID D (Option D)) (exact : AreExact k) wh
   )
 
   -- a server and a leader are replaced
-  keeps_both : (es : List (TraceEvent T ID D)) (p : Parts T ID D) (i j : ℕ) (new : Server ID) (lnew : Leader T ID)
-      → i < length p.servers → j < length p.leaders → new.log < length p.logs.logs → lnew.log < length p.logs.logs
+  keeps_both : (es : List (TraceEvent T ID D)) (p : Parts T ID D) (i j : ℕ) (new : Server ID) (l lnew : Leader T ID)
+      → i < length p.servers → j < length p.leaders → l ≡ get_or p.leaders j l → lnew.term ≡ l.term → new.log < length p.logs.logs → lnew.log < length p.logs.logs
       → HasSeen k es (set (servers_in p) i (server_in p.logs new)) (set (leaders_in p) j (leader_in p.logs lnew))
       → (old : List (TraceEvent T ID D)) → Keeps k old p → Keeps k es (with_leader (with_server p i new) j lnew)
-  keeps_both es p i j new lnew at at_j within within_j seen old keeps = record {
+  keeps_both es p i j new l lnew at at_j is same within within_j seen old keeps = record {
     are_logs = keeps.are_logs;
+    placed = placed_set k.rank p.places p.leaders j l lnew at_j is same keeps.placed;
     have_logs = have_leader (with_server p i new) j lnew (have_server p i new keeps.have_logs at within) at_j within_j;
     seen = subst (λ (x : List (LeaderState T ID D)). HasSeen k es (servers_in (with_server p i new)) x)
         (sym (map-set (leader_in p.logs) p.leaders j lnew))
@@ -763,7 +773,7 @@ module _ {T ID D : Type 0} (k : Tests T ID D (Option D)) (exact : AreExact k) wh
       (ap (λ (x : Server ID). log_at p.logs x.log) rest) (ap (λ (x : Server ID). x.durable) rest)
       (ap (λ (x : Server ID). x.terms.kept) rest) acked (acked_leader p l lnew same) in (
         done.0,
-        keeps_both (Acked id t c n ∷ es) p i j new lnew within within_j
+        keeps_both (Acked id t c n ∷ es) p i j new l lnew within within_j is_l (ap (λ (x : Leader T ID). x.term) same)
             (rw (ap (λ (x : Server ID). x.log) rest) (keeps.have_logs.of_servers i s within is))
             (rw (ap (λ (x : Leader T ID). x.log) same) (keeps.have_logs.of_leaders j l within_j is_l))
             done.1 es keeps,
@@ -831,7 +841,7 @@ module _ {T ID D : Type 0} (k : Tests T ID D (Option D)) (exact : AreExact k) wh
       (elected at_l.distinct ∙ ap (λ x. k.quorum_of x (is_member k.same_id lnew.voters.items)) is_config)
       (ap (λ (x : Leader T ID). x.acked.items) same) (voted_leader p l lnew same) in (
         done.0,
-        keeps_both (Granted id t c ∷ es) p i j new lnew within within_j
+        keeps_both (Granted id t c ∷ es) p i j new l lnew within within_j is_l (ap (λ (x : Leader T ID). x.term) same)
             (rw reached.log (keeps.have_logs.of_servers i s within is))
             (rw (ap (λ (x : Leader T ID). x.log) same) (keeps.have_logs.of_leaders j l within_j is_l))
             done.1 es keeps,
@@ -915,10 +925,14 @@ module _ {T ID D : Type 0} (k : Tests T ID D (Option D)) (exact : AreExact k) wh
       → lnew.acked.items ≡ []
       → LeaderIs (leader_in p.logs lnew) t c (length (log_at p.logs s.log)) (log_at p.logs s.log) (c ∷ []) lnew.elected None
       → lnew.log ≡ s.log
+      → (places : List (ℕ × (ℕ × ℕ)))
+      → place_of places (k.rank t)
+      ≡ Some (first_of (place_of p.places (k.rank t)) (length p.leaders), length p.leaders)
+      → ((q : ℕ) → (q ≡ k.rank t → ⊥) → place_of places q ≡ place_of p.places q)
       → (broken_rule k (Campaigned c t) es ≡ None)
-      × Keeps k (Campaigned c t ∷ es) (with_leaders (with_server p i new) (lnew ∷ p.leaders))
+      × Keeps k (Campaigned c t ∷ es) (with_places (with_leaders (with_server p i new) (lnew ∷ p.leaders)) places)
   campaign_done es t c p i len s0 s m new lnew config at is0 is keeps above room is_len term kept rest elected is_config acked
-      same same_log =
+      same same_log places here others =
       let reached = reaches p s m new (k.rank t) len room is_len term kept rest in
       let within : i < length p.servers = within_of (is_server c) p.servers i s at in
       let one : s0 ≡ s = same_item p.servers i s0 s within is0 is in
@@ -928,12 +942,14 @@ module _ {T ID D : Type 0} (k : Tests T ID D (Option D)) (exact : AreExact k) wh
       (leader_place_in p t c None (no_campaign es t c p i s0 at is0 keeps above)) keeps.seen
       (subst (λ (x : Server ID). x.terms.term < k.rank t) one above)
       reached.id reached.term reached.voted (ap (log_at p.logs) reached.log) reached.durable reached.kept
-      (elected ∙ ap (λ x. k.quorum_of x (is_member k.same_id (c ∷ []))) is_config) acked same in (
+      (elected ∙ ap (λ x. k.quorum_of x (is_member k.same_id (c ∷ []))) is_config) acked same in
+      let have = have_more (with_server p i new) lnew
+      (have_server p i new keeps.have_logs within (rw reached.log old_log)) (rw same_log old_log) in (
         done.0,
         record {
           are_logs = keeps.are_logs;
-          have_logs = have_more (with_server p i new) lnew
-              (have_server p i new keeps.have_logs within (rw reached.log old_log)) (rw same_log old_log);
+          have_logs = record { of_servers = have.of_servers; of_leaders = have.of_leaders };
+          placed = placed_more k.rank p.places places p.leaders lnew (k.rank t) (ap k.rank same.term) here others keeps.placed;
           seen = subst (λ (x : List (ServerState T ID D)). HasSeen k (Campaigned c t ∷ es) x (leader_in p.logs lnew ∷ leaders_in p))
               (sym (map-set (server_in p.logs) p.servers i new)) done.1;
         },
@@ -960,7 +976,7 @@ module _ {T ID D : Type 0} (k : Tests T ID D (Option D)) (exact : AreExact k) wh
       → (log : ℕ) → IsChild (λ d. is_some (k.config_of d)) p.logs l1.log e logs log
       → lnew ≡ record l { log = log }
       → (broken_rule k (Wrote c t e) es ≡ None)
-      × Keeps k (Wrote c t e ∷ es) (record { logs = logs; servers = p.servers; leaders = set p.leaders j lnew })
+      × Keeps k (Wrote c t e ∷ es) (record { logs = logs; servers = p.servers; leaders = set p.leaders j lnew; places = p.places })
   write_done es t c e p j logs l0 l1 l lnew holds is_holds initial at_j is_l0 is_l1 is_l keeps free log child rest =
       let is_log : lnew.log ≡ log = ap (λ (x : Leader T ID). x.log) rest in
       let within_j : j < length p.leaders = within_of (is_leader t c) p.leaders j l at_j in
@@ -988,7 +1004,7 @@ module _ {T ID D : Type 0} (k : Tests T ID D (Option D)) (exact : AreExact k) wh
       same_servers p.logs logs p.servers (λ i s h is. child.kept s.log (keeps.have_logs.of_servers i s h is)) in
       let same_l : map (leader_in logs) p.leaders ≡ leaders_in p =
       same_leaders p.logs logs p.leaders (λ i x h is. child.kept x.log (keeps.have_logs.of_leaders i x h is)) in
-      let grown : Parts T ID D = record { logs = logs; servers = p.servers; leaders = p.leaders } in
+      let grown : Parts T ID D = record { logs = logs; servers = p.servers; leaders = p.leaders; places = p.places } in
       let have : HaveLogs grown = record {
         of_servers = λ i s h is.
             (let o : s.log < length p.logs.logs = keeps.have_logs.of_servers i s h is in omega (arith, o, child.more));
@@ -999,6 +1015,7 @@ module _ {T ID D : Type 0} (k : Tests T ID D (Option D)) (exact : AreExact k) wh
         record {
           are_logs = child.logs;
           have_logs = have_leader grown j lnew have within_j (rw is_log child.within);
+          placed = placed_set k.rank p.places p.leaders j l lnew within_j is_l (ap (λ (x : Leader T ID). x.term) rest) keeps.placed;
           seen = subst (λ (x : List (LeaderState T ID D)). HasSeen k (Wrote c t e ∷ es) (map (server_in logs) p.servers) x)
               (ap (λ (x : List (LeaderState T ID D)). set x j (leader_in logs lnew)) (sym same_l)
               ∙ sym (map-set (leader_in logs) p.leaders j lnew))
@@ -1112,7 +1129,7 @@ module _ {T ID D : Type 0} (k : Tests T ID D (Option D)) (exact : AreExact k) wh
         committed = ap (λ (x : Leader T ID). x.committed) rest;
       }) in (
         done.0,
-        keeps_leader (Committed c t n m ∷ es) p j lnew within
+        keeps_leader (Committed c t n m ∷ es) p j l3 lnew within is3 (ap (λ (x : Leader T ID). x.term) rest)
             (rw (ap (λ (x : Leader T ID). x.log) rest) (keeps.have_logs.of_leaders j l3 within is3)) done.1 es keeps,
       )
 
@@ -1196,6 +1213,7 @@ module _ {T ID D : Type 0} (k : Tests T ID D (Option D)) (exact : AreExact k) wh
         record {
           are_logs = keeps.are_logs;
           have_logs = keeps.have_logs;
+          placed = keeps.placed;
           seen = done.1;
         },
       )

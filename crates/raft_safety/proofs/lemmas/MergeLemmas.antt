@@ -2,6 +2,7 @@
 use Rattle.std.specs.Prelude.{
   ◌≡◌,
   ◌≢◌,
+  ◌⊎◌,
   ◌+◌,
   ◌-◌,
   ◌<◌,
@@ -12,6 +13,9 @@ use Rattle.std.specs.Prelude.{
   Some,
   None,
   Option,
+  Result,
+  Bool,
+  true,
   IfSome,
   List,
   [],
@@ -25,11 +29,11 @@ use Rattle.std.specs.Prelude.{
 }
 use Rattle.std.specs.Global.{Vec}
 use Rattle.std.specs.Option.{option_or}
-use Rattle.std.proofs.Common.{refl, sym, ap, ◌∙◌, inl, inr, subst, arith}
+use Rattle.std.proofs.Common.{Ok, Err, refl, sym, ap, ◌∙◌, inl, inr, subst, arith}
 use Rattle.std.proofs.lemmas.Bool.{cases_eq}
 use Rattle.std.proofs.lemmas.Option.{slice_get-get_or, slice_get_read, slice_get_within}
-use Rattle.raft_safety.specs.Trace.{TraceEvent, Tests, broken_rule}
-use Rattle.raft_safety.specs.Checker.{event_of}
+use Rattle.raft_safety.specs.Trace.{AreExact, TraceEvent, Tests, broken_rule}
+use Rattle.raft_safety.specs.Checker.{Keeps, configs_of, event_of, kept_by}
 use Rattle.raft_safety.specs.Merge.{
   AreAllPlaced,
   AreEnded,
@@ -38,8 +42,12 @@ use Rattle.raft_safety.specs.Merge.{
   IsNext,
   IsPlaced,
   IsRefused,
+  IsRefusedMerge,
+  RecordsNext,
 }
-use Rattle.raft_safety.specs.declared.checker.violation.Violation.TheVariants.{Rule as BreaksRule}
+use Rattle.raft_safety.specs.declared.checker.Checker.{Checker}
+use Rattle.raft_safety.specs.declared.checker.violation.Violation.{Violation}
+use Rattle.raft_safety.specs.declared.checker.violation.Violation.TheVariants.{OutOfMemory, Rule as BreaksRule}
 use Rattle.raft_safety.specs.declared.event.Event.{Event as RecordedEvent}
 use Rattle.raft_safety.specs.declared.rule.Rule.{Rule}
 
@@ -232,3 +240,58 @@ module _ {T ID D : Type 0} (k : Tests T ID D (Option D)) (lists : List (Vec (Rec
 pub or_some : {X : Type 0} (o : Option X) (x : X) → option_or o (Some x) ≡ None → ⊥
 or_some None x e = absurd (cc)
 or_some (Some y) x e = absurd (cc)
+
+-- ---- a checker that records the next event, by the configs with which it began
+
+module _ {T ID D C : Type 0} (tests : C → Tests T ID D (Option D)) (configs : C)
+    (lists : List (Vec (RecordedEvent T ID D))) (placed before new_placed : List ℕ) (old new : Checker T ID D C)
+    (same_configs : configs_of old ≡ configs) (same_placed : before ≡ placed) (exact : AreExact (tests configs)) where
+  -- the checker has recorded events that interleave those that are placed
+  abbrev pub HasTrace : List ℕ → Checker T ID D C → Type 0
+  HasTrace ns c =
+      (es : List (TraceEvent T ID D)) × Keeps (tests configs) es (kept_by c) × Interleaves lists ns es
+
+  now : (result : Result Bool (ℕ × Violation))
+      → RecordsNext (tests (configs_of old)) lists before old new_placed new result
+      → RecordsNext (tests configs) lists placed old new_placed new result
+  now result h =
+      subst (λ (x : C). RecordsNext (tests x) lists placed old new_placed new result) same_configs
+      (subst (λ (x : List ℕ). RecordsNext (tests (configs_of old)) lists x old new_placed new result) same_placed h)
+
+  pub next_seen : RecordsNext (tests (configs_of old)) lists before old new_placed new (Ok true)
+      → HasTrace placed old → HasTrace new_placed new
+  next_seen records seen =
+      let step = now (Ok true) records exact seen.0 seen.1 in
+      let next = step.0 refl in
+      (event_of next.0.event ∷ seen.0, next.1, (placed, next.0, refl, seen.2))
+
+  pub none_seen : (r : ℕ × Violation)
+      → RecordsNext (tests (configs_of old)) lists before old new_placed new (Err r)
+      → new_placed ≡ before → HasTrace placed old → IsRefusedMerge (tests configs) lists placed r.0 r.1
+  none_seen r records same seen = go (now (Err r) records exact seen.0 seen.1)
+    where
+      stay : new_placed ≡ placed
+      stay = same ∙ same_placed
+
+      go : ((r.1 ≡ OutOfMemory) × (n : ℕ) × (e : RecordedEvent T ID D) × IsNext lists new_placed r.0 n e)
+          ⊎ AreRefused (tests configs) lists new_placed seen.0 r.0 r.1
+          → IsRefusedMerge (tests configs) lists placed r.0 r.1
+      go (inl memory) =
+          inl (
+            memory.0,
+            inr (record {
+              trace = seen.0;
+              interleaves = seen.2;
+              allowed = seen.1.seen.allowed;
+              count = memory.1;
+              event = memory.2;
+              is_next = subst (λ (x : List ℕ). IsNext lists x r.0 memory.1 memory.2) stay memory.3;
+            }),
+          )
+      go (inr each) =
+          inr (inr (record {
+            trace = seen.0;
+            interleaves = seen.2;
+            allowed = seen.1.seen.allowed;
+            refused = subst (λ (x : List ℕ). AreRefused (tests configs) lists x seen.0 r.0 r.1) stay each;
+          }))

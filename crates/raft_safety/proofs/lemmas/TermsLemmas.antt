@@ -1,35 +1,10 @@
 -- What a server has kept since its earlier terms.
-use Rattle.std.specs.Prelude.{
-  ◌≡◌,
-  ◌⊎◌,
-  ◌+◌,
-  ◌-◌,
-  ◌<◌,
-  ◌≤◌,
-  ℕ,
-  zero,
-  suc,
-  Bool,
-  true,
-  false,
-  nat_le,
-  nat_lt,
-  min,
-  if◌then◌else◌,
-  List,
-  [],
-  ◌∷◌,
-  ◌++◌,
-  length,
-  take,
-  get_or,
-  set,
-}
+use Rattle.std.specs.Prelude.{◌≡◌, ◌+◌, ◌-◌, ◌<◌, ◌≤◌, ℕ, zero, suc, Bool, true, false, nat_le, min, if◌then◌else◌, List, [], ◌∷◌, ◌++◌, length, take, get_or, set}
 use Rattle.std.proofs.Common.{refl, sym, ap, ◌∙◌, arith}
 use Rattle.std.proofs.lemmas.Bool.{le-leb, leb-false, leb-true, le-ltb, lt-leb, lt-ltb}
 use Rattle.std.proofs.lemmas.List.{take_more}
 use Rattle.raft_safety.specs.Inner.CheckerState.{kept_after, kept_from}
-use Rattle.raft_safety.specs.Inner.TermsState.{IsFrom, IsRising, last_kept, lowered}
+use Rattle.raft_safety.specs.Inner.TermsState.{IsRising, last_kept, lowered}
 use Rattle.raft_safety.specs.declared.checker.terms.Kept.{Kept}
 
 -- ---- the last items

@@ -6,11 +6,12 @@ use Rattle.raft_safety.specs.Inner.Logs.{AllLogs, log_at}
 use Rattle.raft_safety.specs.declared.checker.server.Server.{Server}
 use Rattle.raft_safety.specs.declared.checker.leader.Leader.{Leader}
 
--- the logs, the servers and the leaders of a checker
+-- the logs, the servers and the leaders of a checker, and the numbers of each rank's leaders
 pub record Parts (T N D : Type 0) : Type 0 where
   pub logs : AllLogs T D
   pub servers : List (Server N)
   pub leaders : List (Leader T N)
+  pub places : List (ℕ × (ℕ × ℕ))
 
 module _ {T N D : Type 0} where
   -- what is kept of a server, with the entries of its log

@@ -1,4 +1,4 @@
-use Rattle.std.proofs.Common.{◌≡◌, ◌+◌, ◌∙◌, Bool, ap, get_or, not, sym, arith}
+use Rattle.std.proofs.Common.{◌+◌, ◌∙◌, Bool, ap, not, sym, arith}
 use Rattle.std.specs.Set.{is_member}
 use Rattle.std.proofs.lemmas.List.Sums.{count_by_more_no, count_by_more_yes}
 use Rattle.raft_members.proofs.lemmas.quorum.MajorityLemmas.{flipped}

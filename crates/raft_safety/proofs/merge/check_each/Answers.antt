@@ -1,8 +1,7 @@
-use Rattle.std.proofs.Common.{◌≡◌, ◌<◌, ◌∙◌, List, ℕ, [], ◌∷◌, length, refl, subst, sym, ap, inl, inr, arith}
+use Rattle.std.proofs.Common.{◌≡◌, ◌<◌, ◌∙◌, [], length, ap, arith}
 use Rattle.std.proofs.lemmas.List.{length-replicate, with_items_is}
-use Rattle.raft_safety.specs.Checker.{event_of}
-use Rattle.raft_safety.specs.Merge.{Interleaves}
-use Rattle.raft_safety.proofs.lemmas.MergeLemmas.{all_placed, left, placed_less}
+use Rattle.raft_safety.specs.Checker.{tests_of}
+use Rattle.raft_safety.proofs.lemmas.MergeLemmas.{all_placed, left, next_seen, none_seen, placed_less}
 use Rattle.raft_safety.proofs.lemmas.TraceLemmas.{trace_is_safe}
 use Rattle.raft_safety.proofs.merge.check_each.Goals as goal
 
@@ -32,16 +31,12 @@ loop-checker-preserved g c =
     record {
       configs = c.in-Ok-true.ensures.configs ∙ c.loop-checker.invariant.configs;
       counts = rw items (c.record_next.auto.placed ∙ rw c.deref_mut.ensures.value c.loop-checker.invariant.counts);
-      seen = λ exact.
-          let before = c.loop-checker.invariant.seen exact in
-          let next =
-          ((rw (c.loop-checker.invariant.configs, c.deref_mut.ensures.value) at c.in-Ok-true.ensures.records) exact before.0 before.1).0
-          c.in-Ok-true.field-0-test in (
-            event_of next.0.event ∷ before.0,
-            next.1,
-            subst (λ (ns : List ℕ). Interleaves c.args.lists.now ns (event_of next.0.event ∷ before.0)) (sym items)
-                (c.loop-checker.placed.items, next.0, refl, before.2),
-          );
+      seen = λ exact. rw items (next_seen
+          (λ (x : g.row.C.Denot). tests_of (record { eq = g.T.PartialEq.eq; rank = g.T.Term.rank }) g.N.PartialEq g.D.PartialEq
+          g.C.Configs x)
+          c.args.configs c.args.lists.now c.loop-checker.placed.items c.deref_mut.result.now c.record_next.new.placed
+          c.loop-checker.checker c.record_next.new.checker c.loop-checker.invariant.configs c.deref_mut.ensures.value exact
+          (rw c.in-Ok-true.field-0-test at c.in-Ok-true.ensures.records) (c.loop-checker.invariant.seen exact));
     }
 
 pub returns-in-Ok-false-clause-safe : goal.returns-in-Ok-false-clause-safe
@@ -57,29 +52,13 @@ returns-in-Ok-false-clause-safe g c = λ exact.
 
 pub returns-in-Err-record_next-clause-refused : goal.returns-in-Err-record_next-clause-refused
 returns-in-Err-record_next-clause-refused g c = λ exact.
-    let before = c.loop-checker.invariant.seen exact in
     let items = with_items_is c.loop-checker.placed c.record_next.new.placed (omega arith) in
     let same : c.record_next.new.placed ≡ c.loop-checker.placed.items =
     c.in-Err-record_next.ensures.same ∙ c.deref_mut.ensures.value in
-    let refused = (rw (c.loop-checker.invariant.configs, same) at c.in-Err-record_next.ensures.records) exact before.0 before.1 in
-    rw (items, same) (elim refused [
-      | inl memory ↦
-          inl (
-            memory.0,
-            inr (record {
-              trace = before.0;
-              interleaves = before.2;
-              allowed = before.1.seen.allowed;
-              count = memory.1;
-              event = memory.2;
-              is_next = memory.3;
-            }),
-          )
-      | inr each ↦
-          inr (inr (record {
-            trace = before.0;
-            interleaves = before.2;
-            allowed = before.1.seen.allowed;
-            refused = each;
-          }))
-    ])
+    rw (items, same) (none_seen
+    (λ (x : g.row.C.Denot). tests_of (record { eq = g.T.PartialEq.eq; rank = g.T.Term.rank }) g.N.PartialEq g.D.PartialEq
+    g.C.Configs x)
+    c.args.configs c.args.lists.now c.loop-checker.placed.items c.deref_mut.result.now c.record_next.new.placed
+    c.loop-checker.checker c.record_next.new.checker c.loop-checker.invariant.configs c.deref_mut.ensures.value exact
+    (c.in-Err-record_next.list, c.in-Err-record_next.violation) c.in-Err-record_next.ensures.records
+    c.in-Err-record_next.ensures.same (c.loop-checker.invariant.seen exact))

@@ -1,4 +1,4 @@
-use Rattle.std.proofs.Common.{◌∙◌, ap, refl, sym}
+use Rattle.std.proofs.Common.{◌≡◌, ◌∙◌, ap, length, refl, sym}
 use Rattle.std.proofs.lemmas.Result.{err_from_is_err_and}
 use Rattle.raft_safety.specs.Checker.{kept_by}
 use Rattle.raft_safety.specs.declared.checker.server.Server.{Server}
@@ -24,14 +24,14 @@ pub returns-in-Some-clause-answer : goal.returns-in-Some-clause-answer
 returns-in-Some-clause-answer g c =
     λ exact es keeps. campaign_twice _ exact es c.args.term c.args.server
     (with_servers (kept_by c.args.self.now) c.server_at.new.servers.items) c.in-Some.field-0
-    (sym c.in-Some.ensures.place)
+    (sym (c.in-Some.ensures.place exact.same_term keeps.placed))
     (keeps_at _ exact es c.args.server (kept_by c.args.self.now) c.server_at.new.servers.items c.in_ok-i.i c.in_ok-i.ensures.at keeps)
 
 pub returns-in-None-clause-answer : goal.returns-in-None-clause-answer
 returns-in-None-clause-answer g c =
     λ exact es keeps. campaign_passed _ exact es c.args.term c.args.server
     (with_servers (kept_by c.args.self.now) c.server_at.new.servers.items) c.in_ok-i.i
-    c.index.result.now c.in_ok-i.ensures.at.0 c.index.ensures (sym c.in-None.ensures.place)
+    c.index.result.now c.in_ok-i.ensures.at.0 c.index.ensures (sym (c.in-None.ensures.place exact.same_term keeps.placed))
     (keeps_at _ exact es c.args.server (kept_by c.args.self.now) c.server_at.new.servers.items c.in_ok-i.i c.in_ok-i.ensures.at keeps)
     (rw (c.rank-rank.ensures, c.term.ensures) at c.if-rank-term.true)
 
@@ -71,6 +71,18 @@ returns-in_err-leader-clause-answer g c =
           c.in_ok-make_room.ensures.rest),
     ))
 
+pub returns-in_err-note_place-clause-answer : goal.returns-in_err-note_place-clause-answer
+returns-in_err-note_place-clause-answer g c =
+    let p = err_from_is_err_and c.from_residual-in_err-note_place.result c.from_residual-in_err-note_place.ensures.1 in
+    rw (p.1, p.2) (λ exact es keeps. (
+      tt,
+      rw (c.in_ok-reserve.ensures.items, c.in_err-note_place.ensures.err) (same_server _ exact es
+          (with_servers (kept_by c.args.self.now) c.server_at.new.servers.items) c.args.server c.in_ok-i.i
+          c.index_mut-voter.result.now c.make_room.new.self c.in_ok-i.ensures.at.0 c.index_mut-voter.ensures.value
+          (keeps_at _ exact es c.args.server (kept_by c.args.self.now) c.server_at.new.servers.items c.in_ok-i.i c.in_ok-i.ensures.at keeps)
+          c.in_ok-make_room.ensures.rest),
+    ))
+
 pub returns-clause-answer : goal.returns-clause-answer
 returns-clause-answer g c =
     λ exact es keeps. rw (c.push_front_reserved.ensures.items, c.in_ok-reserve.ensures.items)
@@ -96,7 +108,12 @@ returns-clause-answer g c =
       elected = refl;
       committed = c.in_ok-leader.ensures.committed;
     })
-    (c.in_ok-leader.ensures.log ∙ ap (λ (s : Server g.row.N.Denot). s.log) c.in_ok-make_room.ensures.rest))
+    (c.in_ok-leader.ensures.log ∙ ap (λ (s : Server g.row.N.Denot). s.log) c.in_ok-make_room.ensures.rest)
+    c.note_place.new.places.entries
+    (let count : c.len.result ≡ length c.args.self.now.leaders.items =
+    c.len.ensures ∙ c.reserve.new.self.ok.0 ∙ ap length c.in_ok-reserve.ensures.items in
+    rw (c.rank-rank.ensures, count) at c.in_ok-note_place.ensures.here)
+    (rw c.rank-rank.ensures at c.in_ok-note_place.ensures.others))
 
 pub index-requires : goal.index-requires
 index-requires g c = within_len _ _ _ c.server_at.new.servers.ok.0 c.in_ok-i.ensures.within

@@ -1,4 +1,4 @@
-use Rattle.std.proofs.Common.{◌≡◌, ◌++◌, ◌∷◌, ◌≤◌, ◌<◌, [], arith}
+use Rattle.std.proofs.Common.{◌≡◌, arith}
 use Rattle.raft_safety.specs.Inner.TermsState.{last_kept}
 use Rattle.raft_safety.proofs.lemmas.TermsLemmas.{
   reach_lowers,

@@ -1,7 +1,6 @@
-use Rattle.std.proofs.Common.{◌∙◌, ap, sym, arith}
+use Rattle.std.proofs.Common.{◌∙◌, ap}
 use Rattle.raft_safety.specs.Inner.CheckerState.{kept_after}
 use Rattle.raft_safety.specs.Inner.TermsState.{TermsState}
-use Rattle.raft_safety.proofs.lemmas.TermsLemmas.{reach_nothing}
 use Rattle.raft_safety.proofs.checker.terms.Terms.reach.Goals as goal
 
 pub invariant_of-self : goal.invariant_of-self
