@@ -1,8 +1,10 @@
 pub mod AppendLemmas
 pub mod ChangeLemmas
 pub mod CutLemmas
+pub mod ExtendLemmas
 pub mod FollowerLemmas
 pub mod GrantedLemmas
+pub mod HeartbeatLemmas
 pub mod HonestLemmas
 pub mod KnownLemmas
 pub mod RefusalLemmas

@@ -8,6 +8,7 @@ use Rattle.std.specs.Prelude.{
   false,
   ◌&&◌,
   ◌⊎◌,
+  ◌++◌,
   List,
   [],
   ◌∷◌,
@@ -55,7 +56,7 @@ use Rattle.raft_state.specs.raft_state.Appended.{AppendsMemberships}
 use Rattle.raft_state.specs.entry.Entry.{payload_membership}
 use Rattle.raft_state.specs.log_id_list.FullLog.{end_index, full_log, same_log}
 use Rattle.raft_state.specs.log_id_list.LogEdits.{front}
-use Rattle.raft_state.specs.log_id_list.LogKept.{HasIds}
+use Rattle.raft_state.specs.log_id_list.LogKept.{HasIds, KeepsIds}
 use Rattle.raft_state.specs.log_id_list.LogReads.{id_at, last_id}
 use Rattle.raft_state.specs.membership_state.MembershipMoves.{after_commit}
 use Rattle.raft_state.specs.membership_state.Memberships.{Memberships}
@@ -180,6 +181,23 @@ pub record Replaces {K N I L C D : Type 0} (ord : OrdMembers C) (id_eq : K → K
     membership_state = new.membership_state;
     accepted = new.accepted;
   }
+
+-- these entries are appended to a log that they may be appended to, and their memberships are
+-- effective:
+-- - the log ids of the log afterwards, of which the last one is that of the last entry;
+-- - what that makes of the memberships; nothing else changed.
+pub record Extends {K N I L C D : Type 0} (eq : C → C → Bool) (id_eq : K → K → Bool)
+    (same : N → N → Bool) (es : List (EntryOf C K N D)) (old new : RaftStateIn K N I L C) : Type 0 where
+  pub log : IsTrue (same_log eq (full_log new.log_ids) (full_log old.log_ids ++ entry_ids es))
+  pub last : last_id (full_log new.log_ids)
+      ≡ option_or (last_id (entry_ids es)) (last_id (full_log old.log_ids))
+  pub kept : KeepsIds eq (full_log old.log_ids) (full_log new.log_ids)
+  pub own : HasIds eq (entry_ids es) (full_log new.log_ids)
+  pub memberships : AppendsMemberships id_eq same (λ e. e.log_id) (λ e. payload_membership e.payload) es
+      old.membership_state new.membership_state
+  pub effective : log_id_of new.membership_state.effective
+      ≡ effective_with (log_id_of old.membership_state.effective) es
+  pub rest : new ≡ record old { log_ids = new.log_ids; membership_state = new.membership_state }
 
 -- the log, the memberships and what is accepted are as they were
 pub record IsLogKept {K N I L C : Type 0} (old new : RaftStateIn K N I L C) : Type 0 where

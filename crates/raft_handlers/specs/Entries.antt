@@ -5,13 +5,16 @@ use Rattle.std.specs.Prelude.{
   Bool,
   true,
   false,
+  ◌+◌,
   ◌-◌,
   ◌&&◌,
   ◌||◌,
   ◌⊎◌,
   ◌^◌,
+  nat_eq,
   nat_le,
   nat_lt,
+  not,
   List,
   [],
   ◌∷◌,
@@ -262,6 +265,19 @@ commit_tests eq cmp id s = record tests_hold {
   members = state_may_commit cmp id s;
   has = has_past_committed eq cmp id s;
 }
+
+-- entries have consecutive indexes from this one on, are of this leader, and store no membership
+abbrev pub continue_from : {C K N D : Type 0} → (C → C → Bool) → C → ℕ → List (EntryOf C K N D) → Bool
+continue_from eq leader i [] = true
+continue_from eq leader i (e ∷ es) =
+    nat_eq e.log_id.index i
+    && (eq e.log_id.leader_id leader && (not (stores_membership e) && continue_from eq leader (i + 1) es))
+
+-- entries have consecutive indexes, are of one leader, and store no membership
+abbrev pub are_plain : {C K N D : Type 0} → (C → C → Bool) → List (EntryOf C K N D) → Bool
+are_plain eq [] = true
+are_plain eq (e ∷ es) =
+    not (stores_membership e) && continue_from eq e.log_id.leader_id (e.log_id.index + 1) es
 
 -- the log ids up to an index, and then those of new entries
 abbrev pub log_with_new : {C K N D : Type 0} → List (LogIdOf C) → List (EntryOf C K N D)

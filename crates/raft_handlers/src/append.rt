@@ -14,11 +14,11 @@ ghost use Rattle.raft_state.specs.raft_state.VoteAndLog.{vote_of};
 use crate::changes::Changes;
 use crate::error::HandlerError;
 use crate::laws::honest_request_may_be_taken;
-use crate::log::{append_new, are_in_order, commit, cut, has};
+use crate::log::{append_new, are_in_order, are_plain, commit, cut, has};
 use crate::message::{AppendEntries, Outcome, Response};
 use crate::state::State;
 use crate::vote::follow;
-use raft_base::order::log_id_below;
+use raft_base::order::{log_id_below, same_optional_log_ids};
 use raft_base::{Instant, LeaderIdentity, LogIdOf, LogIdOptionExt, LogStateReader, Node, NodeId};
 use raft_state::{EntryOf, RaftStateIn, VoteStateReader};
 
@@ -138,6 +138,17 @@ fn match_log<NID: NodeId, N: Node, I: Instant, L: Drop, C: Ord + Copy + Drop, D>
         let last = state.last_log_id().copied().index();
         return Ok((Outcome::Conflict { index: at, last }, changes));
     }
+    // A heartbeat that commits nothing more, as most do.
+    let has_none = request.entries.as_slice().is_empty();
+    if has_none && same_optional_log_ids(request.committed, state.committed) {
+        let changes = Changes {
+            vote: false,
+            truncated_from: None,
+            new: 0,
+            committed: None,
+        };
+        return Ok((Outcome::Matches(request.prev), changes));
+    }
     let last = request.last_log_id();
     let committed = least(request.committed, last);
     let changes = take_entries(state, request.prev, &request.entries, committed)?;
@@ -183,12 +194,13 @@ fn take_entries<NID: NodeId, N: Node, I: Instant, L: Drop, C: Ord + Copy + Drop,
     } }
     ensures sound { IsSound C.eq C.cmp state.old → IsSound C.eq C.cmp state.new }
 {
-    if !are_in_order(prev, entries) {
+    let plain = are_plain(entries);
+    if !are_in_order(prev, entries, plain) {
         return Err(HandlerError::NotInOrder);
     }
     let place = first_new(state, entries);
     let new = &entries[place..];
-    let truncated_from = append_new(state, new)?;
+    let truncated_from = append_new(state, new, plain)?;
     let committed = commit(state, committed)?;
     Ok(Changes {
         vote: false,

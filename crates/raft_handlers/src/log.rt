@@ -1,10 +1,10 @@
 //! The end of a log, replaced by new entries.
-ghost use Rattle.std.specs.Prelude.{◌≡◌, ◌&&◌, false, IsTrue, IfErr, IfOk, OnOk, OnErr, Option, Some, nat_eq};
+ghost use Rattle.std.specs.Prelude.{◌≡◌, ◌&&◌, ◌+◌, false, IsTrue, IfErr, IfOk, OnOk, OnErr, Option, Some, nat_eq};
 ghost use Rattle.std.specs.Set.{ClonesAreEqual};
 ghost use Rattle.raft_base.specs.LogId.{next_index};
 ghost use Rattle.raft_base.specs.declared.log_id.LogIdOf.{LogIdOf};
-ghost use Rattle.raft_handlers.specs.Append.{IsCut, Replaces, Stops};
-ghost use Rattle.raft_handlers.specs.Entries.{are_in_order, commit_tests, end_tests, ends_before, entry_ids, has_past_committed, may_append_after, may_cut, may_extend, new_tests, tests_hold, RefusedUnless};
+ghost use Rattle.raft_handlers.specs.Append.{Extends, IsCut, Replaces, Stops};
+ghost use Rattle.raft_handlers.specs.Entries.{are_in_order, are_plain, commit_tests, continue_from, end_tests, ends_before, entry_ids, has_past_committed, may_cut, may_extend, new_tests, tests_hold, RefusedUnless};
 ghost use Rattle.raft_handlers.specs.Written.{risen_to, Truncates, WritesEntries};
 ghost use Rattle.raft_state.specs.log_id_list.LogConditions.{follows};
 ghost use Rattle.raft_state.specs.raft_state.Commit.{state_after_commit, state_may_commit};
@@ -14,11 +14,13 @@ use crate::error::HandlerError;
 use raft_base::order::{index_below, log_id_below};
 use raft_base::{Instant, LogIdOf, LogIdOptionExt, LogStateReader, Node, NodeId};
 use raft_state::{EntryOf, RaftPayload, RaftStateIn};
+use std::alloc::AllocError;
 
 /// Truncates the log at an index, unless the log ends before it, and returns the index if it did.
 /// Refuses to truncate what is committed.
 ///
 /// After an error nothing has changed.
+#[inline(always)]
 pub(crate) fn cut<NID: NodeId, N: Node, I: Instant, L: Drop, C: Ord + Copy + Drop>(
     state: &mut RaftStateIn<NID, N, I, L, C>,
     since: u64,
@@ -35,11 +37,30 @@ pub(crate) fn cut<NID: NodeId, N: Node, I: Instant, L: Drop, C: Ord + Copy + Dro
     if ends_before(state, since) {
         return Ok(None);
     }
+    truncate(state, since)?;
+    Ok(Some(since))
+}
+
+/// Truncates the log at an index that it does not end before. Refuses to truncate what is
+/// committed.
+///
+/// After an error nothing has changed.
+fn truncate<NID: NodeId, N: Node, I: Instant, L: Drop, C: Ord + Copy + Drop>(
+    state: &mut RaftStateIn<NID, N, I, L, C>,
+    since: u64,
+) -> Result<(), HandlerError>
+    requires { ends_before since state.old ≡ false }
+    ensures cut { OnOk result (IsCut C.Ord since state.old state.new) }
+    ensures refused { IfErr result (RefusedUnless
+        (record tests_hold { keeps = may_cut C.cmp since state.old })) }
+    ensures err { OnErr result (state.new ≡ state.old) }
+    ensures sound { IsSound C.eq C.cmp state.old → IsSound C.eq C.cmp state.new }
+{
     if !state.can_truncate_log(since) {
         return Err(HandlerError::TruncatesCommitted);
     }
     state.truncate_log(since)?;
-    Ok(Some(since))
+    Ok(())
 }
 
 /// Whether the log has no index from this one on.
@@ -54,14 +75,17 @@ fn ends_before<NID: NodeId, N: Node, I: Instant, L: Drop, C: Ord + Copy + Drop>(
 }
 
 /// Puts new entries in place of the log from the index of the first one on, and returns that index
-/// if the log was truncated there.
+/// if the log was truncated there. If the entries are known to be plain, only the first one is
+/// tested.
 ///
 /// After an error the log is as it was, or truncated there.
 pub(crate) fn append_new<NID: NodeId, N: Node, I: Instant, L: Drop, C: Ord + Copy + Drop, D>(
     state: &mut RaftStateIn<NID, N, I, L, C>,
     new: &[EntryOf<C, NID, N, D>],
+    plain: bool,
 ) -> Result<Option<u64>, HandlerError>
     requires clones_are_equal { ClonesAreEqual N.eq N.is_clone }
+    requires plain { IsTrue plain → IsTrue (are_plain C.eq new.now) }
     ensures written { IfOk result (λ from.
         WritesEntries C.eq from (entry_ids new.now) state.old state.new) }
     ensures replaced { OnOk result (Replaces C.Ord NID.eq N.eq new.now state.old state.new) }
@@ -78,25 +102,65 @@ pub(crate) fn append_new<NID: NodeId, N: Node, I: Instant, L: Drop, C: Ord + Cop
         return Ok(None);
     };
     let truncated_from = cut(state, first.log_id.index)?;
-    if !may_extend(state, new) {
+    if !may_extend(state, new, plain) {
         return Err(refusal(state, new));
     }
-    state.append_entries(new)?;
+    extend(state, new, plain)?;
     Ok(truncated_from)
 }
 
-/// Whether entries may be appended to the log. Most continue it under its last leader, and store no
-/// membership: these are tested in one loop.
+/// Whether entries may be appended to the log.
 fn may_extend<NID: NodeId, N: Node, I: Instant, L: Drop, C: Ord + Copy + Drop, D>(
     state: &RaftStateIn<NID, N, I, L, C>,
     new: &[EntryOf<C, NID, N, D>],
+    plain: bool,
 ) -> bool
+    requires { IsTrue plain → IsTrue (are_plain C.eq new.now) }
     ensures { result ≡ may_extend C.cmp new.now state.now }
 {
-    match state.last_log_id() {
-        Some(last) if continue_log(last, new) => true,
-        _ => state.can_append_entries(new),
+    if plain {
+        are_in_order(state.last_log_id().copied(), new, plain)
+    } else {
+        state.can_append_entries(new)
     }
+}
+
+/// Appends entries that may be appended to the log. No look for memberships is needed if they are
+/// known to be plain.
+///
+/// After an error nothing has changed.
+fn extend<NID: NodeId, N: Node, I: Instant, L: Drop, C: Ord + Copy + Drop, D>(
+    state: &mut RaftStateIn<NID, N, I, L, C>,
+    new: &[EntryOf<C, NID, N, D>],
+    plain: bool,
+) -> Result<(), AllocError>
+    requires clones_are_equal { ClonesAreEqual N.eq N.is_clone }
+    requires plain { IsTrue plain → IsTrue (are_plain C.eq new.now) }
+    requires may { IsTrue (may_extend C.cmp new.now state.old) }
+    ensures extends { OnOk result (Extends C.eq NID.eq N.eq new.now state.old state.new) }
+    ensures err { OnErr result (state.new ≡ state.old) }
+    ensures sound { IsSound C.eq C.cmp state.old → IsSound C.eq C.cmp state.new }
+{
+    if plain {
+        return state.extend_log_ids(new);
+    }
+    state.append_entries(new)
+}
+
+/// Whether entries have consecutive indexes, are of one leader, and store no membership, as most
+/// do. Such entries may be appended wherever the first one may.
+pub(crate) fn are_plain<NID: NodeId, N: Node, C: Ord + Copy, D>(
+    entries: &[EntryOf<C, NID, N, D>],
+) -> bool
+    ensures { IsTrue result → IsTrue (are_plain C.eq entries.now) }
+{
+    let Some(first) = entries.first() else {
+        return true;
+    };
+    if first.get_membership().is_some() {
+        return false;
+    }
+    continue_log(&first.log_id, &entries[1..])
 }
 
 /// Whether entries have consecutive indexes after a log id, are of its leader, and store no
@@ -108,9 +172,8 @@ fn continue_log<NID: NodeId, N: Node, C: Ord + Copy, D>(
     last: &LogIdOf<C>,
     entries: &[EntryOf<C, NID, N, D>],
 ) -> bool
-    ensures in_order { IsTrue result → IsTrue (are_in_order C.cmp (Some last.now) entries.now) }
-    ensures may { IsTrue result → (members : Option (LogIdOf C)) →
-        IsTrue (may_append_after C.cmp (Some last.now) members entries.now) }
+    ensures { IsTrue result → IsTrue
+        (continue_from C.eq last.now.leader_id (last.now.index + 1) entries.now) }
 {
     if last.index > u64::MAX - entries.len() as u64 {
         return false;
@@ -138,22 +201,25 @@ fn refusal<NID: NodeId, N: Node, I: Instant, L: Drop, C: Ord + Copy + Drop, D>(
     requires { may_extend C.cmp new.now state.now ≡ false }
     ensures { RefusedUnless (end_tests C.cmp new.now state.now) result }
 {
-    if are_in_order(state.last_log_id().copied(), new) {
+    if are_successors(state.last_log_id().copied(), new) {
         HandlerError::MembershipNotInOrder
     } else {
         HandlerError::NotInOrder
     }
 }
 
-/// Whether entries have consecutive indexes after a log id, and their leaders never fall.
+/// Whether entries have consecutive indexes after a log id, and their leaders never fall. If they
+/// are known to be plain, only the first one is tested.
 pub(crate) fn are_in_order<NID: NodeId, N: Node, C: Ord + Copy, D>(
     last: Option<LogIdOf<C>>,
     entries: &[EntryOf<C, NID, N, D>],
+    plain: bool,
 ) -> bool
+    requires { IsTrue plain → IsTrue (are_plain C.eq entries.now) }
     ensures { result ≡ are_in_order C.cmp last entries.now }
 {
-    match last {
-        Some(last) if continue_log(&last, entries) => true,
+    match entries.first() {
+        Some(first) if plain => is_successor(last, first.log_id),
         _ => are_successors(last, entries),
     }
 }

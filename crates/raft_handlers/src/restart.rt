@@ -8,7 +8,7 @@ ghost use Rattle.raft_state.specs.raft_state.Sound.{IsSound};
 ghost use Rattle.raft_state.specs.raft_state.VoteAndLog.{vote_of};
 
 use crate::error::HandlerError;
-use crate::log::{append_new, commit};
+use crate::log::{append_new, are_plain, commit};
 use crate::snapshot::install;
 use crate::state::State;
 use raft_base::{Instant, LeaderIdentity, LogIdOf, Node, NodeId, VoteIn};
@@ -57,7 +57,8 @@ pub fn restart_server<NID: NodeId, N: Node, I: Instant, L: LeaderIdentity<Id = N
 {
     let mut state: State<NID, N, I, L> = from_snapshot(alloc, &stored.snapshot)?;
     let place = first_past(stored.snapshot.last_log_id, &stored.entries);
-    append_new(&mut state, &stored.entries[place..])?;
+    let new = &stored.entries[place..];
+    append_new(&mut state, new, are_plain(new))?;
     commit(&mut state, stored.committed)?;
     commit_known(&mut state)?;
     state.accepted = AcceptedIn::new(L::default(), None);

@@ -40,6 +40,14 @@ const ROWS: &[(&str, Sent, Answer, Written, Row, Row)] = &[
         Some((2, 2)),
     ),
     (
+        "a heartbeat that commits nothing more changes nothing",
+        (3, END, &[], FIRST),
+        Answer::Matches(END),
+        NOTHING,
+        END,
+        FIRST,
+    ),
+    (
         "new entries are appended, and nothing is committed past them",
         (3, END, &[(3, 4), (3, 5)], Some((3, 9))),
         Answer::Matches(Some((3, 5))),

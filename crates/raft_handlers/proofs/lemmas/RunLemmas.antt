@@ -2,6 +2,8 @@
 use Rattle.std.proofs.Common.{
   ◌≡◌,
   ℕ,
+  zero,
+  suc,
   ◌+◌,
   ◌≤◌,
   ◌==◌,
@@ -16,15 +18,20 @@ use Rattle.std.proofs.Common.{
   Some,
   None,
   if◌then◌else◌,
+  drop,
+  is_some,
   nat_eq,
   nat_le,
+  option_map,
   refl,
   sym,
+  true≢false,
   arith,
   ◌∙◌,
 }
 use Rattle.std.proofs.Math.Bool.{and-false}
-use Rattle.std.specs.Prelude.{nat_lt, not}
+use Rattle.std.specs.Prelude.{nat_lt, not, slice_get}
+use Rattle.std.specs.List.{list_any}
 use Rattle.std.proofs.lemmas.Bool.{and_parts}
 use Rattle.std.proofs.lemmas.Bool.Decides.{nat_tests}
 use Rattle.std.specs.Cmp.{IsEquivalence}
@@ -34,25 +41,19 @@ use Rattle.std.specs.declared.cmp.Ordering.{Ordering}
 use Rattle.std.specs.declared.cmp.Ordering.TheVariants.{Less, Equal, Greater}
 use Rattle.raft_base.specs.LogId.{next_index, same_id, same_ids}
 use Rattle.raft_base.specs.declared.log_id.LogIdOf.{LogIdOf}
-use Rattle.raft_handlers.specs.Entries.{entry_ids, may_append_after, stores_membership}
+use Rattle.raft_handlers.specs.Entries.{are_in_order, are_plain, continue_from, entry_ids, has_memberships_in_order, stores_membership}
 use Rattle.raft_state.proofs.lemmas.log_id_list.FrontLemmas.{last_at}
 use Rattle.raft_state.proofs.lemmas.log_id_list.IdOrderLemmas.{leaders_symm, leaders_trans}
 use Rattle.raft_state.proofs.lemmas.log_id_list.OrderLemmas.{From}
 use Rattle.raft_state.proofs.lemmas.sound.LoggedIds.{is_kept}
+use Rattle.raft_state.specs.entry.Entry.{payload_membership}
 use Rattle.raft_state.specs.log_id_list.FullLog.{full_log}
-use Rattle.raft_state.specs.log_id_list.LogConditions.{all_follow}
+use Rattle.raft_state.specs.log_id_list.LogConditions.{all_follow, follows}
 use Rattle.raft_state.specs.log_id_list.LogReads.{id_at, last_id}
 use Rattle.raft_state.specs.raft_state.Appended.{are_consecutive, memberships_follow}
 use Rattle.raft_state.specs.raft_state.Sound.{purged_or_logged}
 use Rattle.raft_state.specs.declared.entry.EntryOf.{EntryOf}
 use Rattle.raft_state.specs.declared.raft_state.RaftStateIn.{RaftStateIn}
-
--- entries have consecutive indexes from this one on, are of this leader, and store no membership
-abbrev pub continue_from : {C K N D : Type 0} → (C → C → Bool) → C → ℕ → List (EntryOf C K N D) → Bool
-continue_from eq leader i [] = true
-continue_from eq leader i (e ∷ es) =
-    nat_eq e.log_id.index i
-    && (eq e.log_id.leader_id leader && (not (stores_membership e) && continue_from eq leader (i + 1) es))
 
 pub continue_past : {C K N D : Type 0} (eq : C → C → Bool) (leader : C) (i : ℕ) (e : EntryOf C K N D) (es : List (EntryOf C K N D))
     → e.log_id.index ≡ i → eq e.log_id.leader_id leader ≡ true → stores_membership e ≡ false
@@ -103,12 +104,86 @@ module _ {C K N D : Type 0} (eq : C → C → Bool) (leader : C) where
       let b = and_parts _ _ h in let c = and_parts _ _ b.1 in let d = and_parts _ _ c.1 in
       rw (must_not (stores_membership e) d.0) (members_stay cmp (i + 1) members es d.1)
 
-  pub may_continue : (cmp : C → C → Ordering) → IsEquivalence eq → ((x y : C) → eq x y ≡ is_eq (cmp x y)) → (prev : LogIdOf C)
-      (members : Option (LogIdOf C)) (es : List (EntryOf C K N D)) → eq prev.leader_id leader ≡ true
-      → continue_from eq leader (prev.index + 1) es ≡ true → may_append_after cmp (Some prev) members es ≡ true
-  may_continue cmp eqs is prev members es of_leader h =
-      both_true (both_true (leaders_stay cmp eqs is prev es of_leader h) (indexes_follow prev es h))
-      (members_stay cmp (prev.index + 1) members es h)
+  none_stored_from : (i : ℕ) (es : List (EntryOf C K N D)) → continue_from eq leader i es ≡ true
+      → list_any (λ e. is_some (payload_membership e.payload)) es ≡ false
+  none_stored_from i [] h = refl
+  none_stored_from i (e ∷ es) h =
+      let b = and_parts _ _ h in let c = and_parts _ _ b.1 in let d = and_parts _ _ c.1 in
+      rw (must_not (stores_membership e) d.0) (none_stored_from (i + 1) es d.1)
+
+-- what a loan that is absent shows
+pub none_shown : {A B : Type 0} (f : A → B) (o : Option A) (m : Option B) → option_map f o ≡ m → is_some o ≡ false → is_some m ≡ false
+none_shown f None m e h = rw (← e) refl
+none_shown f (Some x) m e h = absurd (true≢false h)
+
+both_alone : (a b : Bool) → (a && b) ≡ ((a && true) && (b && true))
+both_alone true true = refl
+both_alone true false = refl
+both_alone false true = refl
+both_alone false false = refl
+
+-- plain entries
+module _ {C K N D : Type 0} (eq : C → C → Bool) (eqs : IsEquivalence eq) where
+  -- entries of a leader are of each leader that equals it
+  leader_alike : (a b : C) (i : ℕ) (es : List (EntryOf C K N D)) → eq a b ≡ true → continue_from eq a i es ≡ true
+      → continue_from eq b i es ≡ true
+  leader_alike a b i [] same h = refl
+  leader_alike a b i (e ∷ es) same h =
+      let p = and_parts _ _ h in let q = and_parts _ _ p.1 in let r = and_parts _ _ q.1 in
+      both_true p.0 (both_true (leaders_trans eqs e.log_id.leader_id a b q.0 same)
+      (both_true r.0 (leader_alike a b (i + 1) es same r.1)))
+
+  -- what is left of them is plain
+  plain_rest : (e : EntryOf C K N D) (es : List (EntryOf C K N D)) → are_plain eq (e ∷ es) ≡ true → are_plain eq es ≡ true
+  plain_rest e [] h = refl
+  plain_rest e (x ∷ xs) h =
+      let a = and_parts _ _ h in
+      let p = and_parts _ _ a.1 in let q = and_parts _ _ p.1 in let r = and_parts _ _ q.1 in
+      let t : nat_eq x.log_id.index (e.log_id.index + 1) ≡ true = p.0 in
+      let at : e.log_id.index + 1 ≡ x.log_id.index = grind (arith, nat_tests) in
+      let later : continue_from eq e.log_id.leader_id (e.log_id.index + 1 + 1) xs ≡ true = r.1 in
+      both_true r.0 (leader_alike e.log_id.leader_id x.log_id.leader_id (x.log_id.index + 1) xs
+      (leaders_symm eqs x.log_id.leader_id e.log_id.leader_id q.0) (rw at at later))
+
+  pub plain_drop : (n : ℕ) (es : List (EntryOf C K N D)) → are_plain eq es ≡ true → are_plain eq (drop n es) ≡ true
+  plain_drop zero es h = h
+  plain_drop (suc n) [] h = refl
+  plain_drop (suc n) (e ∷ es) h = plain_drop n es (plain_rest e es h)
+
+  -- entries are plain if the others continue the first one, and that stores no membership
+  pub plain_from : (first : EntryOf C K N D) (es : List (EntryOf C K N D)) → slice_get es 0 ≡ Some first
+      → stores_membership first ≡ false
+      → continue_from eq first.log_id.leader_id (first.log_id.index + 1) (drop 1 es) ≡ true → are_plain eq es ≡ true
+  plain_from first [] begins none h = refl
+  plain_from first (x ∷ xs) begins none h = let same : x ≡ first = cc in rw (same, none) h
+
+  -- they are in order wherever the first one may come
+  pub plain_in_order : (cmp : C → C → Ordering) → ((x y : C) → eq x y ≡ is_eq (cmp x y)) → (last : Option (LogIdOf C))
+      (first : EntryOf C K N D) (es : List (EntryOf C K N D)) → slice_get es 0 ≡ Some first → are_plain eq es ≡ true
+      → (follows cmp last first.log_id && nat_eq first.log_id.index (next_index last)) ≡ are_in_order cmp last es
+  plain_in_order cmp is last first [] begins h = cc
+  plain_in_order cmp is last first (x ∷ xs) begins h =
+      let same : x ≡ first = cc in
+      let a = and_parts _ _ h in
+      let later = leaders_stay eq x.log_id.leader_id cmp eqs is x.log_id xs (eqs.refl x.log_id.leader_id) a.1 in
+      let next = indexes_follow eq x.log_id.leader_id x.log_id xs a.1 in
+      rw (← same, later, next) (both_alone (follows cmp last x.log_id) (nat_eq x.log_id.index (next_index last)))
+
+  -- and leave the memberships
+  pub plain_members : (cmp : C → C → Ordering) (members : Option (LogIdOf C)) (es : List (EntryOf C K N D)) → are_plain eq es ≡ true
+      → has_memberships_in_order cmp members es ≡ true
+  plain_members cmp members [] h = refl
+  plain_members cmp members (e ∷ es) h =
+      let a = and_parts _ _ h in
+      rw (must_not (stores_membership e) a.0)
+      (members_stay eq e.log_id.leader_id cmp (e.log_id.index + 1) members es a.1)
+
+  pub plain_stores_none : (es : List (EntryOf C K N D)) → are_plain eq es ≡ true
+      → list_any (λ e. is_some (payload_membership e.payload)) es ≡ false
+  plain_stores_none [] h = refl
+  plain_stores_none (e ∷ es) h =
+      let a = and_parts _ _ h in
+      rw (must_not (stores_membership e) a.0) (none_stored_from eq e.log_id.leader_id (e.log_id.index + 1) es a.1)
 
 -- what a log has past its last index, and at it
 found_alone : {C : Type 0} (eq : C → C → Bool) (x id : LogIdOf C)

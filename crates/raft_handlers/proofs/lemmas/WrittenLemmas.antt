@@ -124,6 +124,16 @@ module _ {K N I L C D : Type 0} (ord : OrdMembers C) (es : List (EntryOf C K N D
     committed = rw stays at risen;
   }
 
+  -- nothing is written if there are no entries, and nothing is committed
+  pub nothing_matches : IsTotalOrder ord.cmp → IsEquivalence ord.eq → (upto : Option (LogIdOf C)) (s : RaftStateIn K N I L C) → es ≡ []
+      → WritesLog ord es (Matches upto) no_changes s s
+  nothing_matches total eqs upto s none = rw none (record {
+    log = rw (append-nil (full_log s.log_ids)) (same_log_itself ord.eq eqs (full_log s.log_ids));
+    needed = tt;
+    count = refl;
+    committed = none_risen total s.committed s.committed refl;
+  })
+
   -- the log id that an answer has does not matter
   pub matches_alike : (a b : Option (LogIdOf C)) (changes : Changes C) (old new : RaftStateIn K N I L C)
       → WritesLog ord es (Matches a) changes old new → WritesLog ord es (Matches b) changes old new

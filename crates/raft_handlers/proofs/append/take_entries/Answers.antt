@@ -1,8 +1,15 @@
 use Rattle.std.proofs.Common.{ap, refl, rules, sym, ◌∙◌}
 use Rattle.raft_handlers.proofs.EntryLemmas.{slice_rest}
+use Rattle.raft_handlers.proofs.lemmas.RunLemmas.{plain_drop}
 use Rattle.raft_handlers.proofs.lemmas.TakeLemmas.{commit_refused, commit_took, disorder_refused, new_refused, take_rest}
 use Rattle.raft_handlers.proofs.lemmas.WrittenLemmas.{entries_written}
 use Rattle.raft_handlers.proofs.append.take_entries.Goals as goal
+
+pub append_new-requires-clause-plain : goal.append_new-requires-clause-plain
+append_new-requires-clause-plain g c = λ κs lives plain.
+    let place = c.first_new-place.result in
+    rw (slice_rest place c.args.entries.now) (plain_drop g.C.PartialEq.eq g.met.C.Eq.laws place c.args.entries.now
+    (c.are_plain-plain.ensures plain))
 
 pub returns-then-not-are_in_order-clause-refused : goal.returns-then-not-are_in_order-clause-refused
 returns-then-not-are_in_order-clause-refused g c =

@@ -24,9 +24,9 @@ returns-clause-replaced g c =
     let first = c.in-Some.first.now in
     let begins : slice_get c.args.new.now 0 ≡ Some first = sym (rw c.in-Some.is at c.first.ensures.value) in
     let may = sym c.may_extend.ensures ∙ c.if-not-may_extend.false in
-    let a = c.in_ok-append_entries.ensures in
+    let a = c.in_ok-extend.ensures.extends in
     replaces _ g.NID.PartialEq.eq g.N.PartialEq.eq g.met.C.Eq.laws c.args.new.now first c.args.state.now c.cut.new.state begins
-    c.in_ok-truncated_from.ensures.cut c.append_entries.new.self may a.log a.last a.kept a.own a.memberships a.effective a.rest
+    c.in_ok-truncated_from.ensures.cut c.extend.new.state may a.log a.last a.kept a.own a.memberships a.effective a.rest
 
 pub returns-in_err-truncated_from-clause-refused : goal.returns-in_err-truncated_from-clause-refused
 returns-in_err-truncated_from-clause-refused g c =
@@ -61,21 +61,21 @@ returns-then-not-may_extend-clause-stopped g c =
     stops_cut _ g.NID.PartialEq.eq g.N.PartialEq.eq g.met.C.Eq.laws c.args.new.now first c.args.state.now c.cut.new.state begins
     c.in_ok-truncated_from.ensures.cut c.cut.new.state refl
 
-pub returns-in_err-append_entries-clause-stopped : goal.returns-in_err-append_entries-clause-stopped
-returns-in_err-append_entries-clause-stopped g c =
+pub returns-in_err-extend-clause-stopped : goal.returns-in_err-extend-clause-stopped
+returns-in_err-extend-clause-stopped g c =
     let first = c.in-Some.first.now in
     let begins : slice_get c.args.new.now 0 ≡ Some first = sym (rw c.in-Some.is at c.first.ensures.value) in
     let stops = stops_cut _ g.NID.PartialEq.eq g.N.PartialEq.eq g.met.C.Eq.laws c.args.new.now first c.args.state.now c.cut.new.state begins
-    c.in_ok-truncated_from.ensures.cut c.append_entries.new.self c.in_err-append_entries.ensures.err in
+    c.in_ok-truncated_from.ensures.cut c.extend.new.state c.in_err-extend.ensures.err in
     search (rules, stops)
 
-pub returns-in_err-append_entries-clause-rest : goal.returns-in_err-append_entries-clause-rest
-returns-in_err-append_entries-clause-rest g c = rw c.in_err-append_entries.ensures.err c.in_ok-truncated_from.ensures.cut.rest
+pub returns-in_err-extend-clause-rest : goal.returns-in_err-extend-clause-rest
+returns-in_err-extend-clause-rest g c = rw c.in_err-extend.ensures.err c.in_ok-truncated_from.ensures.cut.rest
 
 pub returns-clause-rest : goal.returns-clause-rest
 returns-clause-rest g c =
-    append_rest c.args.state.now c.cut.new.state c.append_entries.new.self c.in_ok-truncated_from.ensures.cut.rest
-    c.in_ok-append_entries.ensures.rest
+    append_rest c.args.state.now c.cut.new.state c.extend.new.state c.in_ok-truncated_from.ensures.cut.rest
+    c.in_ok-extend.ensures.extends.rest
 
 pub returns-in_default-clause-written : goal.returns-in_default-clause-written
 returns-in_default-clause-written g c =
@@ -85,4 +85,4 @@ returns-in_default-clause-written g c =
 pub returns-clause-written : goal.returns-clause-written
 returns-clause-written g c =
     let t = c.in_ok-truncated_from.ensures.truncated in
-    record { log = rw t.log at c.in_ok-append_entries.ensures.log; needed = t.needed }
+    record { log = rw t.log at c.in_ok-extend.ensures.extends.log; needed = t.needed }

@@ -1,8 +1,8 @@
-use Rattle.std.proofs.Common.{refl, sym, ◌∙◌}
+use Rattle.std.proofs.Common.{sym, ◌∙◌}
 use Rattle.raft_state.proofs.lemmas.log_id_list.ExtendLemmas.{is_key_list}
 use Rattle.raft_state.proofs.lemmas.log_id_list.FrontLemmas.{from_first}
 use Rattle.raft_state.specs.log_id_list.FullLog.{first_index, full_log}
-use Rattle.raft_handlers.proofs.lemmas.CutLemmas.{ends_cut, truncated_cut}
+use Rattle.raft_handlers.proofs.lemmas.CutLemmas.{ends_cut}
 use Rattle.raft_handlers.proofs.log.cut.Goals as goal
 
 pub returns-then-ends_before-clause-cut : goal.returns-then-ends_before-clause-cut
@@ -12,20 +12,8 @@ returns-then-ends_before-clause-cut g c =
     let row = from_first g.C.Ord.cmp ks (is_key_list g.C.Ord.cmp ks canonical) in
     ends_cut _ (first_index (full_log ks)) c.args.since c.args.state.now row (sym c.ends_before.ensures ∙ c.if-ends_before.true)
 
-pub returns-clause-cut : goal.returns-clause-cut
-returns-clause-cut g c =
-    truncated_cut _ c.args.since c.args.state.now c.truncate_log.new.self (sym c.ends_before.ensures ∙ c.if-ends_before.false)
-    (sym c.can_truncate_log.ensures ∙ c.if-not-can_truncate_log.false) c.in_ok-truncate_log.ensures.log c.in_ok-truncate_log.ensures.ok
-
-pub returns-then-not-can_truncate_log-clause-refused : goal.returns-then-not-can_truncate_log-clause-refused
-returns-then-not-can_truncate_log-clause-refused g c =
-    rw (
-      sym c.ends_before.ensures ∙ c.if-ends_before.false,
-      sym c.can_truncate_log.ensures ∙ c.if-not-can_truncate_log.true,
-    ) refl
-
 pub returns-clause-truncated : goal.returns-clause-truncated
 returns-clause-truncated g c = record {
-  log = c.in_ok-truncate_log.ensures.log;
+  log = c.in_ok-truncate.ensures.cut.log;
   needed = sym c.ends_before.ensures ∙ c.if-ends_before.false;
 }
