@@ -106,7 +106,7 @@ impl Led<LeaderStd> {
             };
             let request = self.append(id, log_id_range, alloc)?;
             sent = sent.saturating_add(request.entries.len() as u64);
-            let response = handle_append_entries(follower, &request)?;
+            let (response, _changes) = handle_append_entries(follower, &request)?;
             self.leader.handle_response(&2, &response)?;
         }
         Ok(sent)
