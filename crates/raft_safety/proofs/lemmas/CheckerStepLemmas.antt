@@ -730,7 +730,8 @@ module _ {T ID D : Type 0} (k : Tests T ID D (Option D)) (exact : AreExact k) wh
 
   -- a server and a leader are replaced
   keeps_both : (es : List (TraceEvent T ID D)) (p : Parts T ID D) (i j : ℕ) (new : Server ID) (l lnew : Leader T ID)
-      → i < length p.servers → j < length p.leaders → l ≡ get_or p.leaders j l → lnew.term ≡ l.term → new.log < length p.logs.logs → lnew.log < length p.logs.logs
+      → i < length p.servers → j < length p.leaders → l ≡ get_or p.leaders j l → lnew.term ≡ l.term
+      → new.log < length p.logs.logs → lnew.log < length p.logs.logs
       → HasSeen k es (set (servers_in p) i (server_in p.logs new)) (set (leaders_in p) j (leader_in p.logs lnew))
       → (old : List (TraceEvent T ID D)) → Keeps k old p → Keeps k es (with_leader (with_server p i new) j lnew)
   keeps_both es p i j new l lnew at at_j is same within within_j seen old keeps = record {

@@ -1,5 +1,24 @@
 -- What an event that breaks no rule passes, as conjunctions of tests.
-use Rattle.std.specs.Prelude.{◌≡◌, ℕ, Bool, true, false, not, ◌&&◌, ◌||◌, nat_lt, nat_le, Option, Some, None, is_none, List, ◌++◌, length, take}
+use Rattle.std.specs.Prelude.{
+  ◌≡◌,
+  ℕ,
+  Bool,
+  true,
+  false,
+  not,
+  ◌&&◌,
+  ◌||◌,
+  nat_lt,
+  nat_le,
+  Option,
+  Some,
+  None,
+  is_none,
+  List,
+  ◌++◌,
+  length,
+  take,
+}
 use Rattle.std.proofs.Common.{refl, ap, ◌∙◌}
 use Rattle.raft_safety.specs.declared.rule.Rule.TheVariants.{
   NoCampaign,

@@ -87,7 +87,8 @@ pub returns-clause-answer : goal.returns-clause-answer
 returns-clause-answer g c =
     λ exact es keeps. rw (c.push_front_reserved.ensures.items, c.in_ok-reserve.ensures.items)
     (campaign_done _ exact es c.args.term c.args.server (with_servers (kept_by c.args.self.now) c.server_at.new.servers.items) c.in_ok-i.i
-    c.len-len.result c.index.result.now c.index_mut-voter.result.now c.make_room.new.self c.reach.new.self c.in_ok-leader.leader c.config_content-config.result
+    c.len-len.result c.index.result.now c.index_mut-voter.result.now c.make_room.new.self c.reach.new.self
+    c.in_ok-leader.leader c.config_content-config.result
     c.in_ok-i.ensures.at.0 c.index.ensures c.index_mut-voter.ensures.value
     (keeps_at _ exact es c.args.server (kept_by c.args.self.now) c.server_at.new.servers.items c.in_ok-i.i c.in_ok-i.ensures.at keeps)
     (rw (c.rank-rank.ensures, c.term.ensures) at c.if-rank-term.false)
@@ -103,7 +104,8 @@ returns-clause-answer g c =
       term = c.in_ok-leader.ensures.term;
       id = c.in_ok-leader.ensures.id;
       start = c.in_ok-leader.ensures.start ∙ c.len-len.ensures.len;
-      log = ap (log_at c.args.self.now.logs) (c.in_ok-leader.ensures.log ∙ ap (λ (s : Server g.row.N.Denot). s.log) c.in_ok-make_room.ensures.rest);
+      log = ap (log_at c.args.self.now.logs)
+          (c.in_ok-leader.ensures.log ∙ ap (λ (s : Server g.row.N.Denot). s.log) c.in_ok-make_room.ensures.rest);
       voters = c.in_ok-leader.ensures.voters;
       elected = refl;
       committed = c.in_ok-leader.ensures.committed;

@@ -36,7 +36,8 @@ returns-in-Some-grant_rule-clause-answer g c =
     λ exact es keeps. grant_refused _ exact es c.args.server c.args.term c.args.candidate
     (with_servers (kept_by c.args.self.now) c.server_at.new.servers.items) c.in_ok-i.i c.in-Some.j
     c.index.result.now c.index-2.result.now c.in-Some-grant_rule.rule c.in_ok-i.ensures.at.0 c.index.ensures
-    (sym (c.in-Some.ensures.place exact.same_term keeps.placed)) c.index-2.ensures (keeps_at _ exact es c.args.server (kept_by c.args.self.now)
+    (sym (c.in-Some.ensures.place exact.same_term keeps.placed)) c.index-2.ensures
+    (keeps_at _ exact es c.args.server (kept_by c.args.self.now)
     c.server_at.new.servers.items c.in_ok-i.i c.in_ok-i.ensures.at keeps)
     (rw c.rank-rank.ensures at (sym c.in-Some-grant_rule.ensures))
 
@@ -45,7 +46,8 @@ returns-then-rank-term-clause-answer g c =
     λ exact es keeps. late_vote_done _ exact es c.args.server c.args.term c.args.candidate
     (with_servers (kept_by c.args.self.now) c.server_at.new.servers.items) c.in_ok-i.i c.in-Some.j
     c.index.result.now c.index_mut-voter.result.now c.vote_late.new.self c.index-2.result.now
-    c.in_ok-i.ensures.at.0 c.index.ensures c.index_mut-voter.ensures.value (sym (c.in-Some.ensures.place exact.same_term keeps.placed)) c.index-2.ensures
+    c.in_ok-i.ensures.at.0 c.index.ensures c.index_mut-voter.ensures.value
+    (sym (c.in-Some.ensures.place exact.same_term keeps.placed)) c.index-2.ensures
     (keeps_at _ exact es c.args.server (kept_by c.args.self.now) c.server_at.new.servers.items c.in_ok-i.i c.in_ok-i.ensures.at keeps)
     (rw c.rank-rank.ensures at (sym c.in-None-grant_rule.ensures))
     (rw (c.rank-rank.ensures, c.term.ensures) at c.if-rank-term.true)
@@ -69,7 +71,8 @@ returns-in_err-vote-clause-answer g c =
       tt,
       same_leader_again _ exact es (with_server (with_servers (kept_by c.args.self.now) c.server_at.new.servers.items)
           c.in_ok-i.i c.make_room.new.self) c.args.term c.args.candidate c.in-Some.j
-          c.index_mut-leader.result.now c.vote.new.self (sym (c.in-Some.ensures.place exact.same_term keeps.placed)) c.index_mut-leader.ensures.value
+          c.index_mut-leader.result.now c.vote.new.self
+          (sym (c.in-Some.ensures.place exact.same_term keeps.placed)) c.index_mut-leader.ensures.value
           (same_server _ exact es (with_servers (kept_by c.args.self.now) c.server_at.new.servers.items) c.args.server c.in_ok-i.i
           c.index_mut-voter.result.now c.make_room.new.self c.in_ok-i.ensures.at.0 c.index_mut-voter.ensures.value
           (keeps_at _ exact es c.args.server (kept_by c.args.self.now) c.server_at.new.servers.items c.in_ok-i.i c.in_ok-i.ensures.at keeps)

@@ -24,7 +24,8 @@ returns-in-Some-write_rule-clause-answer g c =
     c.in-Some.j c.index.result.now c.in-Some-write_rule.rule (g.C.Configs.holds_config c.args.self.now.configs) (λ d. refl) refl
     (sym (c.in-Some.ensures.place exact.same_term keeps.placed)) c.index.ensures keeps
     (sym (c.in-Some-write_rule.ensures (logs_by (g.C.Configs.holds_config c.args.self.now.configs) c.args.self.now.logs keeps.are_logs)
-    (keeps.have_logs.of_leaders c.in-Some.j c.index.result.now (found_within _ _ _ (sym (c.in-Some.ensures.place exact.same_term keeps.placed))) c.index.ensures)))
+    (keeps.have_logs.of_leaders c.in-Some.j c.index.result.now
+    (found_within _ _ _ (sym (c.in-Some.ensures.place exact.same_term keeps.placed))) c.index.ensures)))
 
 pub returns-in_err-log-clause-answer : goal.returns-in_err-log-clause-answer
 returns-in_err-log-clause-answer g c =
@@ -35,12 +36,15 @@ pub returns-clause-answer : goal.returns-clause-answer
 returns-clause-answer g c =
     λ exact es keeps. write_done _ exact es c.args.term c.args.leader c.args.entry (kept_by c.args.self.now)
     c.in-Some.j c.child.new.self c.index.result.now c.index-2.result.now c.index_mut.result.now c.write.new.self
-    (g.C.Configs.holds_config c.args.self.now.configs) (λ d. refl) refl (sym (c.in-Some.ensures.place exact.same_term keeps.placed)) c.index.ensures
+    (g.C.Configs.holds_config c.args.self.now.configs) (λ d. refl) refl
+    (sym (c.in-Some.ensures.place exact.same_term keeps.placed)) c.index.ensures
     c.index-2.ensures c.index_mut.ensures.value keeps
     (sym (c.in-None-write_rule.ensures (logs_by (g.C.Configs.holds_config c.args.self.now.configs) c.args.self.now.logs keeps.are_logs)
-    (keeps.have_logs.of_leaders c.in-Some.j c.index.result.now (found_within _ _ _ (sym (c.in-Some.ensures.place exact.same_term keeps.placed))) c.index.ensures)))
+    (keeps.have_logs.of_leaders c.in-Some.j c.index.result.now
+    (found_within _ _ _ (sym (c.in-Some.ensures.place exact.same_term keeps.placed))) c.index.ensures)))
     c.in_ok-log.log (c.in_ok-log.ensures.child _ (exact_entries _ exact) keeps.are_logs
-    (keeps.have_logs.of_leaders c.in-Some.j c.index-2.result.now (found_within _ _ _ (sym (c.in-Some.ensures.place exact.same_term keeps.placed))) c.index-2.ensures)
+    (keeps.have_logs.of_leaders c.in-Some.j c.index-2.result.now
+    (found_within _ _ _ (sym (c.in-Some.ensures.place exact.same_term keeps.placed))) c.index-2.ensures)
     (c.holds_config-is_config.ensures
     ∙ ap (λ (e : Entry g.row.T.Denot g.row.D.Denot). g.C.Configs.holds_config c.args.self.now.configs e.content) c.entry.view_is
     ∙ sym (some_config (g.C.Configs.holds_config c.args.self.now.configs) c.args.entry.content)))

@@ -11,7 +11,8 @@ returns-then-not-leader g c = λ exact distinct. rw c.if-not-leader.true refl
 
 pub returns-then-term-rank : goal.returns-then-term-rank
 returns-then-term-rank g c =
-    λ exact distinct. rw (c.if-not-leader.false, lt-leb c.args.rank c.args.server.now.terms.term (rw c.term.ensures at c.if-term-rank.true)) refl
+    λ exact distinct. rw
+    (c.if-not-leader.false, lt-leb c.args.rank c.args.server.now.terms.term (rw c.term.ensures at c.if-term-rank.true)) refl
 
 pub returns-then-len : goal.returns-then-len
 returns-then-len g c =

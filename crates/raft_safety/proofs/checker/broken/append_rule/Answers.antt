@@ -12,7 +12,8 @@ returns-then-not-leader-clause-rule g c = λ exact distinct. rw c.if-not-leader.
 
 pub returns-then-rank-term-clause-rule : goal.returns-then-rank-term-clause-rule
 returns-then-rank-term-clause-rule g c =
-    λ exact distinct. rw (c.if-not-leader.false, lt-leb c.args.server.now.terms.term c.args.rank (rw c.term.ensures at c.if-rank-term.true)) refl
+    λ exact distinct. rw
+    (c.if-not-leader.false, lt-leb c.args.server.now.terms.term c.args.rank (rw c.term.ensures at c.if-rank-term.true)) refl
 
 pub returns-then-len-keep-clause-rule : goal.returns-then-len-keep-clause-rule
 returns-then-len-keep-clause-rule g c =
