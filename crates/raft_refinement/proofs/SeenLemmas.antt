@@ -224,15 +224,15 @@ module _ {K N I L C D E : Type 0} (ids : OrdMembers K) (node_eq : N → N → Bo
         purged = purged;
       }
 
-  pub conflicts_seen : (at : ℕ) → Answers logs ids.eq node_eq request (Conflict at) old new
+  pub conflicts_seen : (at : ℕ) (last : Option ℕ) → Answers logs ids.eq node_eq request (Conflict at last) old new
       → AppendConflicts (leaders_of (compared ids node_eq kind logs)) p leader request.prev at (seen old) (seen new)
-  conflicts_seen at a = record {
+  conflicts_seen at last a = record {
     followed = follows;
     vote = heard_vote kind old new leader vote follows;
-    index = a.conflict.0;
-    conflict = not_kept logs.eq old request.prev a.conflict.1;
-    truncated = a.truncated;
-    committed_is = a.committed;
+    index = a.0.conflict.0;
+    conflict = not_kept logs.eq old request.prev a.0.conflict.1;
+    truncated = a.0.truncated;
+    committed_is = a.0.committed;
     purged = purged;
   }
 
@@ -244,7 +244,7 @@ followed_if false o v higher apart = absurd (apart v (higher refl))
 
 abbrev is_higher : {L C : Type 0} → Outcome L C → Bool
 is_higher (Matches upto) = false
-is_higher (Conflict at) = false
+is_higher (Conflict at last) = false
 is_higher (HigherVote vote) = true
 
 pub not_higher : {L C : Type 0} (o : Outcome L C) (w : VoteIn L) → is_higher o ≡ false → o ≡ HigherVote w → ⊥

@@ -169,7 +169,7 @@ seen_snapshot leader (Some upto) = SeenSnapshot leader upto ∷ []
 
 abbrev pub seen_answer : {K L C : Type 0} → K → L → Outcome L C → List (SeenMessage L C K)
 seen_answer from leader (Matches upto) = SeenMatched from leader upto ∷ []
-seen_answer from leader (Conflict at) = []
+seen_answer from leader (Conflict at last) = []
 seen_answer from leader (HigherVote vote) = []
 
 -- what matters of a message
@@ -368,7 +368,7 @@ module _ {K N I L C D : Type 0} {ids : OrdMembers K} (node_eq : N → N → Bool
               (followed (Matches upto) e (λ x f. not_higher (Matches upto) x refl f)) upto (answers (Matches upto) e);
           sends = sent (Matches upto) e;
         })
-        by (Conflict at) e = SeesConflict (record {
+        by (Conflict at last) e = SeesConflict (record {
           leader = d.request.leader_id;
           prev = d.request.prev;
           ids = entry_ids d.request.entries.items;
@@ -381,8 +381,8 @@ module _ {K N I L C D : Type 0} {ids : OrdMembers K} (node_eq : N → N → Bool
           whole = sound_is_whole logs.cmp logs.eq (w.servers s) (is_key_list logs.cmp (w.servers s).log_ids (holds.keys s)) (holds.sound s);
           whole_after = sound_is_whole logs.cmp logs.eq (v.servers s) (is_key_list logs.cmp (v.servers s).log_ids keys') sound';
           call = λ h. conflicts_seen ids node_eq kind logs _ (w.servers s) (v.servers s) d.request.leader_id d.request refl d.vote d.purged
-              (followed (Conflict at) e (λ x f. not_higher (Conflict at) x refl f)) at (answers (Conflict at) e);
-          sends = sent (Conflict at) e;
+              (followed (Conflict at last) e (λ x f. not_higher (Conflict at last) x refl f)) at last (answers (Conflict at last) e);
+          sends = sent (Conflict at last) e;
         })
         by (HigherVote vote) e = idle (ap seen (answers (HigherVote vote) e).1) (sent (HigherVote vote) e)
 
@@ -442,7 +442,7 @@ module _ {K N I L C D : Type 0} {ids : OrdMembers K} (node_eq : N → N → Bool
                 (seen_snapshot {K = K} d.request.leader_id o)
             sees None e = cc
             sees (Some x) e = inl (ap (λ (y : LogIdOf C). SeenSnapshot d.request.leader_id y) (sym (some_same x d.upto e)))
-        by (Conflict at) e = absurd (subst (λ (x : Outcome L C). IsAnswer d.request x) e d.answers)
+        by (Conflict at last) e = absurd (subst (λ (x : Outcome L C). IsAnswer d.request x) e d.answers)
         by (HigherVote x) e =
             idle (none_heard x e (subst (λ (y : Outcome L C). IsAnswer d.request y) e d.answers).1) (sent (HigherVote x) e)
 

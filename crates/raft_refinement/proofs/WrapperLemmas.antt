@@ -85,9 +85,9 @@ use Rattle.raft_refinement.proofs.SeenLemmas.{
 }
 use Rattle.raft_refinement.proofs.VotingLemmas.{campaigns_keep_rule}
 
-same_outcome : {L C : Type 0} (x y : Response L C) → (let a : Result (Response L C) HandlerError = Ok x in
-    let b : Result (Response L C) HandlerError = Ok y in a ≡ b) → x.outcome ≡ y.outcome
-same_outcome {L} {C} x y e = let same : x ≡ y = cc in ap (λ (z : Response L C). z.outcome) same
+same_outcome : {L C X : Type 0} (x y : Response L C × X) → (let a : Result (Response L C × X) HandlerError = Ok x in
+    let b : Result (Response L C × X) HandlerError = Ok y in a ≡ b) → x.0.outcome ≡ y.0.outcome
+same_outcome {L} {C} {X} x y e = let same : x ≡ y = cc in ap (λ (z : Response L C × X). z.0.outcome) same
 
 module _ {K N I L C D E : Type 0} (ids : OrdMembers K) (node_eq : N → N → Bool) (kind : LeaderMembers L K C) (logs : OrdMembers C)
     (p : Place L C K E) (old new : RaftStateIn K N I L C) (request : AppendEntries L C K N D)
@@ -121,29 +121,29 @@ module _ {K N I L C D E : Type 0} (ids : OrdMembers K) (node_eq : N → N → Bo
           (seen new) is.server whole whole' sent).0 upto
           (matches_seen ids node_eq kind logs p old new request.leader_id request refl vote purged
           (followed (Matches upto) not_followed (λ x f. not_higher (Matches upto) x refl f)) upto answers)
-      by (Conflict at) not_followed answers =
+      by (Conflict at last) not_followed answers =
           (appends_keep_rules (leaders_of (compared ids node_eq kind logs)) p is.ranked is.lawful is.safe (p.history.events p.server)
           (is.lawful.servers p.server) request.leader_id request.prev (entry_ids request.entries.items) request.committed (seen old)
           (seen new) is.server whole whole' sent).1 at
           (conflicts_seen ids node_eq kind logs p old new request.leader_id request refl vote purged
-          (followed (Conflict at) not_followed (λ x f. not_higher (Conflict at) x refl f)) at answers)
+          (followed (Conflict at last) not_followed (λ x f. not_higher (Conflict at last) x refl f)) at last answers)
       by (HigherVote x) not_followed answers =
           subst (λ (s : RaftStateIn K N I L C). IsServer (leaders_of (compared ids node_eq kind logs)) p (seen s)
           (p.history.events p.server)) (sym answers.1) is.server
 
   -- the response of a call is by the rules
-  pub appends_by_rule : (r : Result (Response L C) HandlerError)
+  pub appends_by_rule : {X : Type 0} (nothing : X) (r : Result (Response L C × X) HandlerError)
       → (is_followed kind.order request.leader_id old ≡ false → r ≡ Ok (record {
         leader_id = kind.committed request.leader_id;
         request = request.request;
         outcome = HigherVote (vote_of old);
-      }))
-      → IfOk r (λ response. Answers logs ids.eq node_eq request response.outcome old new)
-      → IfOk r (λ response. AnswersByRule (leaders_of (compared ids node_eq kind logs)) p request.leader_id response.outcome
+      }, nothing))
+      → IfOk r (λ made. Answers logs ids.eq node_eq request made.0.outcome old new)
+      → IfOk r (λ made. AnswersByRule (leaders_of (compared ids node_eq kind logs)) p request.leader_id made.0.outcome
       (p.history.events p.server) (seen new))
-  appends_by_rule (Ok response) not_followed answers =
-      append_by_rule response.outcome (λ none. same_outcome response _ (not_followed none)) answers
-  appends_by_rule (Err e) not_followed answers = tt
+  appends_by_rule nothing (Ok made) not_followed answers =
+      append_by_rule made.0.outcome (λ none. same_outcome made _ (not_followed none)) answers
+  appends_by_rule nothing (Err e) not_followed answers = tt
 
 -- a leader that is not followed changes nothing
 unheard : {K N I L C : Type 0} (kind : LeaderMembers L K C) (leader : L) (s : RaftStateIn K N I L C)
@@ -156,7 +156,7 @@ unheard kind leader s none = by (is_followed kind.order leader s) none
     by true e = absurd (true≢false e)
 
 -- a call that returns a response has no reason to refuse
-no_reason : {L C : Type 0} (o : Option HandlerError) (x : Response L C) → (let r : Result (Response L C) HandlerError = Ok x in
+no_reason : {T : Type 0} (o : Option HandlerError) (x : T) → (let r : Result T HandlerError = Ok x in
     RefusedFor o r)
     → o ≡ None
 no_reason None x h = refl
@@ -190,28 +190,28 @@ module _ {K N I L C E : Type 0} {ids : OrdMembers K} (node_eq : N → N → Bool
           (is.lawful.servers p.server) request.leader_id u (seen old) (seen new) is.server (sound_is_whole logs.cmp logs.eq old are sound)
           was
           (installs_seen node_eq laws is.ranked.same p old new request.leader_id request.meta u e are sound follows allowed answers.1))
-  install_by_rule (Conflict at) not_followed followed answers allowed = absurd answers
+  install_by_rule (Conflict at last) not_followed followed answers allowed = absurd answers
   install_by_rule (HigherVote x) not_followed followed answers allowed =
       subst (λ (s : RaftStateIn K N I L C). IsServer (leaders_of (compared ids node_eq kind logs)) p (seen s) (p.history.events p.server))
       (sym (answers.1 ∙ unheard kind request.leader_id old followed)) is.server
 
   -- the response of a call is by the rules
-  pub installs_by_rule : (r : Result (Response L C) HandlerError)
+  pub installs_by_rule : {X : Type 0} (nothing : X) (r : Result (Response L C × X) HandlerError)
       → (is_followed kind.order request.leader_id old ≡ false → r ≡ Ok (record {
         leader_id = kind.committed request.leader_id;
         request = Some request.request;
         outcome = HigherVote (vote_of old);
-      }))
-      → IfOk r (λ response. IfHigherVote response.outcome (λ _. is_followed kind.order request.leader_id old ≡ false))
-      → IfOk r (λ response. AnswersSnapshot logs kind.eq (IsSnapshotCopy ids.eq node_eq) request.meta response.outcome
+      }, nothing))
+      → IfOk r (λ made. IfHigherVote made.0.outcome (λ _. is_followed kind.order request.leader_id old ≡ false))
+      → IfOk r (λ made. AnswersSnapshot logs kind.eq (IsSnapshotCopy ids.eq node_eq) request.meta made.0.outcome
       (heard kind.order request.leader_id old) new)
       → RefusedFor (snapshot_refusal kind.order logs.cmp logs.eq request.leader_id request.meta old) r
-      → IfOk r (λ response. AnswersByRule (leaders_of (compared ids node_eq kind logs)) p request.leader_id response.outcome
+      → IfOk r (λ made. AnswersByRule (leaders_of (compared ids node_eq kind logs)) p request.leader_id made.0.outcome
       (p.history.events p.server) (seen new))
-  installs_by_rule (Ok response) not_followed followed answers refused =
-      install_by_rule response.outcome (λ none. same_outcome response _ (not_followed none)) followed answers
-      (no_reason (snapshot_refusal kind.order logs.cmp logs.eq request.leader_id request.meta old) response refused)
-  installs_by_rule (Err e) not_followed followed answers refused = tt
+  installs_by_rule nothing (Ok made) not_followed followed answers refused =
+      install_by_rule made.0.outcome (λ none. same_outcome made _ (not_followed none)) followed answers
+      (no_reason (snapshot_refusal kind.order logs.cmp logs.eq request.leader_id request.meta old) made refused)
+  installs_by_rule nothing (Err e) not_followed followed answers refused = tt
 
 -- ---- a candidate
 

@@ -76,7 +76,7 @@ module _ {L C K D : Type 0} (k : Leaders L C K) (p : Place L C K D) where
   -- nothing has changed
   abbrev pub AnswersByRule : L → Outcome L C → List (Event C K D) → State L C → Type 0
   AnswersByRule leader (Matches upto) es new = Follows leader upto es new
-  AnswersByRule leader (Conflict at) es new = Truncates leader es new
+  AnswersByRule leader (Conflict at last) es new = Truncates leader es new
   AnswersByRule leader (HigherVote vote) es new = IsServer k p new es
 
   -- a snapshot that has a last log id was sent

@@ -151,7 +151,7 @@ module _ {K N I L C D : Type 0} (ids : OrdMembers K) (node_eq : N → N → Bool
       pub state : (v.servers s) ≡ (w.servers s)
       pub sends : v.network ≡ w.network
 
-    -- the server is elected: `Leader::(v.servers s)`
+    -- the server is elected: `Leader::new`
     pub record IsElectedLeader : Type 0 where
       pub candidate : Campaign K N L C
       pub made : Leadership K N C

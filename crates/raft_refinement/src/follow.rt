@@ -10,8 +10,8 @@ ghost use Rattle.raft_state.specs.raft_state.Sound.{IsSound};
 
 use raft_base::{Instant, LeaderIdentity, Node, NodeId};
 use raft_handlers::{
-    AppendEntries, HandlerError, InstallSnapshot, Response, State, handle_append_entries,
-    handle_install_snapshot,
+    AppendEntries, Changes, HandlerError, InstallSnapshot, Response, SnapshotChanges, State,
+    handle_append_entries, handle_install_snapshot,
 };
 
 /// Handles a leader's request to append entries, as `handle_append_entries` does, and keeps rules 4
@@ -19,7 +19,7 @@ use raft_handlers::{
 pub fn follows<NID: NodeId, N: Node, I: Instant, L: LeaderIdentity<Id = NID> + Drop, D, E>(
     state: &mut State<NID, N, I, L>,
     request: &AppendEntries<L, L::Committed, NID, N, D>,
-) -> Result<Response<L, L::Committed>, HandlerError>
+) -> Result<(Response<L, L::Committed>, Changes<L::Committed>), HandlerError>
     ghost p: { Place L L.Committed NID E }
     requires clones_are_equal { ClonesAreEqual N.eq N.is_clone }
     requires sound { IsSound L.Committed.eq L.Committed.cmp state.old }
@@ -29,15 +29,15 @@ pub fn follows<NID: NodeId, N: Node, I: Instant, L: LeaderIdentity<Id = NID> + D
         IsSent (leaders_of by) p request.now.leader_id request.now.prev
         (entry_ids request.now.entries.items) request.now.committed }
     ensures by_rule { let by = compared NID.Ord N.eq L.LeaderIdentity L.Committed.Ord in
-        IfOk result (λ response. AnswersByRule (leaders_of by) p request.now.leader_id
-        response.outcome (p.history.events p.server) (seen state.new)) }
+        IfOk result (λ made. AnswersByRule (leaders_of by) p request.now.leader_id
+        made.0.outcome (p.history.events p.server) (seen state.new)) }
     ensures sound { IsSound L.Committed.eq L.Committed.cmp state.new }
 {
     // The keys are read for the proof alone: they are in order.
     let _before = state.log_ids.key_log_ids();
-    let response = handle_append_entries(state, request);
+    let made = handle_append_entries(state, request);
     let _after = state.log_ids.key_log_ids();
-    response
+    made
 }
 
 /// Handles a leader's request to install a snapshot, as `handle_install_snapshot` does, and keeps
@@ -45,7 +45,7 @@ pub fn follows<NID: NodeId, N: Node, I: Instant, L: LeaderIdentity<Id = NID> + D
 pub fn installs<NID: NodeId, N: Node, I: Instant, L: LeaderIdentity<Id = NID> + Drop, E>(
     state: &mut State<NID, N, I, L>,
     request: &InstallSnapshot<L, L::Committed, NID, N>,
-) -> Result<Response<L, L::Committed>, HandlerError>
+) -> Result<(Response<L, L::Committed>, SnapshotChanges), HandlerError>
     ghost p: { Place L L.Committed NID E }
     requires clones_are_equal { ClonesAreEqual N.eq N.is_clone }
     requires sound { IsSound L.Committed.eq L.Committed.cmp state.old }
@@ -54,8 +54,8 @@ pub fn installs<NID: NodeId, N: Node, I: Instant, L: LeaderIdentity<Id = NID> + 
     requires sent { let by = compared NID.Ord N.eq L.LeaderIdentity L.Committed.Ord in
         IsSnapshotSentTo (leaders_of by) p request.now.leader_id request.now.meta.last_log_id }
     ensures by_rule { let by = compared NID.Ord N.eq L.LeaderIdentity L.Committed.Ord in
-        IfOk result (λ response. AnswersByRule (leaders_of by) p request.now.leader_id
-        response.outcome (p.history.events p.server) (seen state.new)) }
+        IfOk result (λ made. AnswersByRule (leaders_of by) p request.now.leader_id
+        made.0.outcome (p.history.events p.server) (seen state.new)) }
     ensures sound { IsSound L.Committed.eq L.Committed.cmp state.new }
 {
     // The keys are read for the proof alone: they are in order.

@@ -1,6 +1,7 @@
 use Rattle.std.proofs.Common.{ap}
 use Rattle.raft_handlers.specs.Compared.{LeaderMembers}
 use Rattle.raft_handlers.specs.Entries.{entry_ids}
+use Rattle.raft_handlers.specs.Written.{no_changes}
 use Rattle.raft_progress.specs.progress.Comparisons.{OrdMembers}
 use Rattle.raft_refinement.specs.Appending.{IsSent}
 use Rattle.raft_refinement.specs.Seen.{seen}
@@ -25,7 +26,7 @@ returns-clause-by_rule g c =
     let sound : IsSound g.L.Committed.PartialEq.eq g.L.Committed.Ord.cmp c.args.state.now = assumption (c.requires) in
     let keys = rw c.key_log_ids-before.ensures.keys at c.key_log_ids-before.ensures.canonical in
     let keys' = rw c.key_log_ids-after.ensures.keys at c.key_log_ids-after.ensures.canonical in
-    let call = c.handle_append_entries-response.ensures in
+    let call = c.handle_append_entries-made.ensures in
     let ids : OrdMembers _ = record {
       partial_cmp = g.NID.PartialOrd.partial_cmp;
       eq = g.NID.PartialEq.eq;
@@ -48,5 +49,5 @@ returns-clause-by_rule g c =
       same_as = g.L.LeaderIdentity.same_as;
     } in
     appends_by_rule ids g.N.PartialEq.eq kind logs g.p c.args.state.now
-    c.handle_append_entries-response.new.state c.args.request.now is keys sound keys' (call.sound sound) sent call.vote
-    (ap (λ s. s.purged_next) call.rest) c.handle_append_entries-response.result call.not_followed call.answers
+    c.handle_append_entries-made.new.state c.args.request.now is keys sound keys' (call.sound sound) sent call.vote
+    (ap (λ s. s.purged_next) call.rest) no_changes c.handle_append_entries-made.result call.not_followed call.answers

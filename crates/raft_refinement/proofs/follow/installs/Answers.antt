@@ -1,4 +1,5 @@
 use Rattle.raft_handlers.specs.Compared.{LeaderMembers}
+use Rattle.raft_handlers.specs.Written.{nothing_installed}
 use Rattle.raft_progress.specs.progress.Comparisons.{OrdMembers}
 use Rattle.raft_refinement.specs.Appending.{IsSnapshotSentTo}
 use Rattle.raft_refinement.specs.Seen.{seen}
@@ -57,4 +58,4 @@ returns-clause-by_rule g c =
       made = g.met.L.LeaderIdentity.made;
     } in
     installs_by_rule g.N.PartialEq.eq laws g.p c.args.state.now c.handle_install_snapshot.new.state c.args.request.now is keys sound sent
-    c.handle_install_snapshot.result call.not_followed call.followed call.answers call.refused
+    nothing_installed c.handle_install_snapshot.result call.not_followed call.followed call.answers call.refused
