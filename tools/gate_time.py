@@ -30,7 +30,7 @@ BUDGETS = {
     "raft_progress": 2300,
     "raft_state": 2220,
     "raft_handlers": 1220,
-    "raft_safety": 260,
+    "raft_safety": 360,
     "raft_refinement": 300,
     "raft_script": 380,
     "cluster": 460,
