@@ -11,3 +11,4 @@ pub mod LawLemmas
 pub mod SeenLemmas
 pub mod ViewLemmas
 pub mod WrapperLemmas
+pub mod ProposingLemmas

@@ -12,7 +12,8 @@ use Rattle.raft_base.specs.declared.log_id.LogIdOf.{LogIdOf}
 use Rattle.raft_base.specs.declared.vote.VoteIn.{VoteIn}
 use Rattle.raft_base.specs.LogId.{id_le}
 use Rattle.raft_safety.specs.Log.{Entry, IsUpToDate, last_term, last_term_or}
-use Rattle.raft_refinement.specs.Server.{AreRanked, IsIdAt, IsLastId, Leaders}
+use Rattle.raft_state.proofs.lemmas.log_id_list.SameLogLemmas.{SameLog}
+use Rattle.raft_refinement.specs.Server.{AreRanked, IsIdAt, IsLastId, Leaders, State}
 
 pub by_index : (i j : ℕ) → is_le (nat_cmp i j) ≡ true → i ≤ j
 by_index i j h = grind (arith, nat_tests)
@@ -111,3 +112,20 @@ greater_leader order a b none h =
     by (Some Equal) false e h = cc
     by None true e h = cc
     by None false e h = cc
+
+-- views with equal parts are equal
+pub same_state : {L C : Type 0} (x y : State L C) → x.vote ≡ y.vote → x.ids ≡ y.ids → x.purged_next ≡ y.purged_next
+    → x.committed ≡ y.committed → x ≡ y
+same_state x y a b c d = λ i. record { vote = a i; ids = b i; purged_next = c i; committed = d i }
+
+-- the log ids of two logs that are the same
+pub same_logs : {C : Type 0} (eq : C → C → Bool) → ((x y : C) → eq x y ≡ true → x ≡ y) → (xs ys : List (LogIdOf C))
+    → SameLog eq xs ys → xs ≡ ys
+same_logs eq exact [] [] h = refl
+same_logs eq exact [] (y ∷ ys) h = absurd h
+same_logs eq exact (x ∷ xs) [] h = absurd h
+same_logs eq exact (x ∷ xs) (y ∷ ys) h =
+    let a = exact x.leader_id y.leader_id h.0 in
+    let b : x.index ≡ y.index = h.1 in
+    let rest = same_logs eq exact xs ys h.2 in
+    λ i. record { leader_id = a i; index = b i } ∷ rest i

@@ -59,7 +59,7 @@ use Rattle.raft_state.specs.raft_state.VoteAndLog.{log_view_of, vote_of}
 use Rattle.raft_state.specs.declared.entry.EntryOf.{EntryOf}
 use Rattle.raft_state.specs.declared.raft_state.RaftStateIn.{RaftStateIn}
 use Rattle.raft_state.proofs.lemmas.log_id_list.ExtendLemmas.{is_key_list}
-use Rattle.raft_state.proofs.lemmas.log_id_list.SameLogLemmas.{SameLog, says_same}
+use Rattle.raft_state.proofs.lemmas.log_id_list.SameLogLemmas.{says_same}
 use Rattle.raft_refinement.specs.Electing.{match_of}
 use Rattle.raft_refinement.specs.Running.{
   AnswersCandidate,
@@ -107,7 +107,7 @@ use Rattle.raft_refinement.specs.Seen.{leaders_of, seen}
 use Rattle.raft_refinement.specs.Server.{State}
 use Rattle.raft_refinement.proofs.AppendingLemmas.{index_found}
 use Rattle.raft_refinement.proofs.LawLemmas.{AreExact, Laws, are_ranked, from_map, in_terms, not_first, ranks}
-use Rattle.raft_refinement.proofs.PlaceLemmas.{beq_is, greater_leader, same_votes, some_same}
+use Rattle.raft_refinement.proofs.PlaceLemmas.{beq_is, greater_leader, same_logs, same_state, same_votes, some_same}
 use Rattle.raft_refinement.proofs.RunningLemmas.{runs_are_safe}
 use Rattle.raft_refinement.proofs.SeenLemmas.{
   committed_found,
@@ -194,22 +194,6 @@ in_network m x (y ∷ ms) (inr a) has = among_second x (seen_message y) (seen_ne
 -- the view of a world
 abbrev pub world_seen : {K N I L C D : Type 0} → World K N I L C D → SeenWorld L C K
 world_seen w = record { servers = λ r. seen (w.servers r); network = seen_network w.network }
-
--- views with equal parts are equal
-same_state : {L C : Type 0} (x y : State L C) → x.vote ≡ y.vote → x.ids ≡ y.ids → x.purged_next ≡ y.purged_next
-    → x.committed ≡ y.committed → x ≡ y
-same_state x y a b c d = λ i. record { vote = a i; ids = b i; purged_next = c i; committed = d i }
-
--- the log ids of two logs that are the same
-same_logs : {C : Type 0} (eq : C → C → Bool) → ((x y : C) → eq x y ≡ true → x ≡ y) → (xs ys : List (LogIdOf C)) → SameLog eq xs ys → xs ≡ ys
-same_logs eq exact [] [] h = refl
-same_logs eq exact [] (y ∷ ys) h = absurd h
-same_logs eq exact (x ∷ xs) [] h = absurd h
-same_logs eq exact (x ∷ xs) (y ∷ ys) h =
-    let a = exact x.leader_id y.leader_id h.0 in
-    let b : x.index ≡ y.index = h.1 in
-    let rest = same_logs eq exact xs ys h.2 in
-    λ i. record { leader_id = a i; index = b i } ∷ rest i
 
 -- what is fixed of the views
 abbrev pub viewed : {K N L C : Type 0} → OrdMembers K → (N → N → Bool) → LeaderMembers L K C → OrdMembers C → Cluster K L

@@ -1,10 +1,12 @@
 -- What a candidate knows of its votes, and a leader of the logs of its members.
-use Rattle.std.specs.Prelude.{◌≡◌, ℕ, Bool, true, List, Option, Some, None}
+use Rattle.std.specs.Prelude.{◌≡◌, ℕ, Bool, true, List, Option, Some, None, ◌∷◌, length}
 use Rattle.raft_base.specs.declared.log_id.LogIdOf.{LogIdOf}
 use Rattle.raft_progress.specs.declared.entry.ProgressEntryOf.{ProgressEntryOf}
-use Rattle.raft_safety.specs.Events.{Event}
+use Rattle.raft_safety.specs.Events.{Ack, Append, Event}
 use Rattle.raft_safety.specs.Facts.{HasAcked, HasVoted, IsCommitted, IsElected}
+use Rattle.raft_safety.specs.Log.{Entry}
 use Rattle.raft_safety.specs.Ranks.{IsAmong}
+use Rattle.raft_safety.specs.Rules.{MayAck, MayAppend}
 use Rattle.raft_refinement.specs.Server.{IsInLog, IsServer, Leaders, Place, State}
 
 -- the match of a member, if the leader counts it
@@ -35,3 +37,13 @@ module _ {L C K D : Type 0} (k : Leaders L C K) (p : Place L C K D) where
       pub counted_at : ℕ
       pub committed : IsCommitted p.rank p.quorum p.history (k.committed leader) p.server id.index counted_at
       pub server : IsServer k p new es
+
+  -- a leader has appended to its log by rule 4, and acknowledges all of it by rule 5, and is the server of
+  -- its state after that
+  pub record ProposesByRule (leader : L) (es : List (Event C K D)) (new : State L C) : Type 0 where
+    pub log : List (Entry C D)
+    pub append : MayAppend p.rank p.quorum p.history es (k.committed leader) p.server log
+    pub ack : MayAck p.rank p.quorum p.history (Append (k.committed leader) p.server log ∷ es)
+        (k.committed leader) p.server (length log)
+    pub server : IsServer k p new (Ack (k.committed leader) p.server (length log)
+        ∷ Append (k.committed leader) p.server log ∷ es)

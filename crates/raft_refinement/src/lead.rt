@@ -1,17 +1,23 @@
-//! A leader commits by the rule.
-ghost use Rattle.std.specs.Prelude.{◌≡◌, Bool, IfOk, IsTrue, Some};
+//! A leader keeps rules 4 and 5 with what it proposes, and commits by the rule.
+ghost use Rattle.std.specs.Prelude.{◌≡◌, ◌++◌, ◌∷◌, [], Bool, IfOk, IsTrue, Some, is_some};
+ghost use Rattle.std.specs.Set.{ClonesAreEqual};
 ghost use Rattle.raft_base.specs.declared.log_id.LogIdOf.{LogIdOf as LogIdRecord};
 ghost use Rattle.raft_handlers.specs.Compared.{compared};
 ghost use Rattle.raft_handlers.specs.Leadership.{entry_of, granted_by};
 ghost use Rattle.raft_members.specs.quorum.Majority.{is_joint_majority};
-ghost use Rattle.raft_refinement.specs.Electing.{HasCommitted, KnowsMatches, match_of};
+ghost use Rattle.raft_refinement.specs.Electing.{HasCommitted, KnowsMatches, ProposesByRule, match_of};
 ghost use Rattle.raft_refinement.specs.Seen.{leaders_of, seen};
 ghost use Rattle.raft_refinement.specs.Server.{IsInHistory, Place};
 ghost use Rattle.raft_safety.specs.Events.{log_after};
+ghost use Rattle.raft_safety.specs.Facts.{IsElected};
+ghost use Rattle.raft_safety.specs.Ranks.{IsAmong};
+ghost use Rattle.raft_state.specs.log_id_list.FullLog.{full_log};
+ghost use Rattle.raft_state.specs.log_id_list.LogReads.{last_id};
 ghost use Rattle.raft_state.specs.raft_state.VoteAndLog.{vote_of};
 
 use raft_base::{Instant, LeaderIdentity, Node, NodeId};
 use raft_handlers::{HandlerError, Leader, State};
+use raft_state::EntryOf;
 
 /// Commits, as `Leader::commit` does: what is new is committed by the rule, if the leader counts
 /// true matches by the config in effect in its log.
@@ -40,4 +46,71 @@ pub fn commits<
         (p.history.events p.server) (seen state.new)) }
 {
     leader.commit(state)
+}
+
+/// Proposes a blank entry, as `Leader::propose_blank` does, and keeps rules 4 and 5: if the leader
+/// writes an entry of its own at the end of its log, it may append it, and it may acknowledge it
+/// once it is on disk. The log is not empty.
+pub fn proposes_blank<
+    NID: NodeId,
+    N: Node,
+    I: Instant,
+    L: LeaderIdentity<Id = NID, Committed = C> + Drop,
+    C: Ord + Copy + Default + Drop + 'static,
+    D: Drop,
+    E,
+>(
+    leader: &Leader<NID, N, C>,
+    state: &mut State<NID, N, I, L>,
+) -> Result<EntryOf<C, NID, N, D>, HandlerError>
+    ghost p: { Place L C NID E }
+    requires clones_are_equal { ClonesAreEqual N.eq N.is_clone }
+    requires server { let by = compared NID.Ord N.eq L.LeaderIdentity C.Ord in
+        IsInHistory (leaders_of by) p (seen state.old) }
+    requires elected { IsElected p.rank p.quorum p.history
+        (L.committed (vote_of state.old).leader_id) p.server }
+    requires in_use { IsAmong (L.committed (vote_of state.old).leader_id) p.terms }
+    requires started { IsTrue (is_some (last_id (full_log state.old.log_ids))) }
+    ensures by_rule { let by = compared NID.Ord N.eq L.LeaderIdentity C.Ord in
+        IfOk result (λ _. (content : E)
+        → p.history.leader_log (L.committed (vote_of state.old).leader_id) p.server
+        ≡ log_after (p.history.events p.server)
+        ++ (record { term = L.committed (vote_of state.old).leader_id; content = content }) ∷ []
+        → ProposesByRule (leaders_of by) p (vote_of state.old).leader_id
+        (p.history.events p.server) (seen state.new)) }
+{
+    leader.propose_blank(state)
+}
+
+/// Proposes an entry with data, as `Leader::propose` does, and keeps rules 4 and 5 in the same way.
+pub fn proposes<
+    NID: NodeId,
+    N: Node,
+    I: Instant,
+    L: LeaderIdentity<Id = NID, Committed = C> + Drop,
+    C: Ord + Copy + Default + Drop + 'static,
+    D: Drop,
+    E,
+>(
+    leader: &Leader<NID, N, C>,
+    state: &mut State<NID, N, I, L>,
+    data: D,
+) -> Result<EntryOf<C, NID, N, D>, HandlerError>
+    ghost p: { Place L C NID E }
+    requires clones_are_equal { ClonesAreEqual N.eq N.is_clone }
+    requires server { let by = compared NID.Ord N.eq L.LeaderIdentity C.Ord in
+        IsInHistory (leaders_of by) p (seen state.old) }
+    requires elected { IsElected p.rank p.quorum p.history
+        (L.committed (vote_of state.old).leader_id) p.server }
+    requires in_use { IsAmong (L.committed (vote_of state.old).leader_id) p.terms }
+    requires started { IsTrue (is_some (last_id (full_log state.old.log_ids))) }
+    ensures by_rule { let by = compared NID.Ord N.eq L.LeaderIdentity C.Ord in
+        IfOk result (λ _. (content : E)
+        → p.history.leader_log (L.committed (vote_of state.old).leader_id) p.server
+        ≡ log_after (p.history.events p.server)
+        ++ (record { term = L.committed (vote_of state.old).leader_id; content = content }) ∷ []
+        → ProposesByRule (leaders_of by) p (vote_of state.old).leader_id
+        (p.history.events p.server) (seen state.new)) }
+{
+    leader.propose(state, data)
 }
