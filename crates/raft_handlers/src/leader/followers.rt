@@ -226,14 +226,15 @@ fn send_next<NID: NodeId, N: Node, C: Ord + Copy, L: LogStateReader<C>>(
     ensures default { (tracked_view followers.new).progress.default_part
         ≡ (tracked_view followers.old).progress.default_part }
 {
-    let Some(entry) = followers.progress().try_get(to).copied() else {
+    let Some(entry) = followers.progress().try_get(to) else {
         return None;
     };
-    if let Some(probing) = probe_of(&entry, log) {
+    let limit = limit_of(entry, max_entries);
+    if let Some(probing) = probe_of(entry, log) {
         let _reply = followers.update(to, probing);
         return Some(probing.inflight);
     }
-    followers.next_send(to, log, limit_of(&entry, max_entries))
+    followers.next_send(to, log, limit)
 }
 
 /// Returns the greatest number of a request, once this is sent.
