@@ -1,17 +1,23 @@
 //! First callers of the handlers, as the page for callers shows them.
-ghost use Rattle.std.specs.Prelude.{◌≡◌, ◌∷◌, [], true, IfOk, IsTrue};
+ghost use Rattle.std.specs.Prelude.{◌≡◌, ◌∷◌, [], Some, true, IfOk, IsTrue};
+ghost use Rattle.std.specs.Option.{option_cmp};
+ghost use Rattle.std.specs.Ordering.{is_le};
+ghost use Rattle.raft_base.specs.LeaderIdStd.{std_log_id_cmp};
 ghost use Rattle.raft_state.specs.membership_state.Memberships.{in_effect};
 
-use raft_base::EmptyNode;
 use raft_base::leader_id_std::{CommittedLeaderId, LeaderId};
+use raft_base::{EmptyNode, LogIdOf};
 use raft_handlers::{
-    AppendEntries, Candidate, HandlerError, Outcome, State, VoteRequest, handle_append_entries,
-    handle_vote_request,
+    AppendEntries, Candidate, HandlerError, Leader, Outcome, State, VoteRequest,
+    handle_append_entries, handle_vote_request,
 };
+use raft_state::EntryOf;
 
 type Server = State<u64, EmptyNode, u64, LeaderId<u64>>;
 
 type Append = AppendEntries<LeaderId<u64>, CommittedLeaderId, u64, EmptyNode, u64>;
+
+type Entry = EntryOf<CommittedLeaderId, u64, EmptyNode, u64>;
 
 /// Whether a voter grants its vote to a candidate.
 pub fn votes(state: &mut Server, request: &VoteRequest<LeaderId<u64>, CommittedLeaderId>) -> bool {
@@ -31,4 +37,21 @@ pub fn elects_itself(id: u64, state: &mut Server) -> Result<bool, HandlerError>
 {
     let candidate = Candidate::campaign(id, 0, state)?;
     Ok(candidate.is_elected())
+}
+
+/// Leads on with a blank entry of its own, which it commits once a quorum has the entry on disk.
+/// Returns the log id of the entry. The only voter has committed the entry then.
+pub fn commits_alone(
+    id: u64,
+    state: &mut Server,
+) -> Result<LogIdOf<CommittedLeaderId>, HandlerError>
+    ensures alone { (in_effect state.old.membership_state).configs ≡ (id ∷ []) ∷ [] → IfOk result
+        (λ own. IsTrue (is_le (option_cmp std_log_id_cmp (Some own) state.new.committed))) }
+{
+    let mut leader = Leader::resume(id, state)?;
+    let entry: Entry = leader.propose_blank(state)?;
+    // Here a program writes the entry to disk.
+    leader.handle_flushed(state, Some(entry.log_id))?;
+    leader.commit(state)?;
+    Ok(entry.log_id)
 }
