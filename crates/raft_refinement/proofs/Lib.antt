@@ -11,4 +11,5 @@ pub mod LawLemmas
 pub mod SeenLemmas
 pub mod ViewLemmas
 pub mod WrapperLemmas
+pub mod MatchingLemmas
 pub mod ProposingLemmas

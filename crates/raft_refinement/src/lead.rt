@@ -1,4 +1,5 @@
-//! A leader keeps rules 4 and 5 with what it proposes, and commits by the rule.
+//! A leader keeps rules 4 and 5 with what it proposes, counts true matches, and commits by the
+//! rule.
 ghost use Rattle.std.specs.Prelude.{◌≡◌, ◌++◌, ◌∷◌, [], Bool, IfOk, IsTrue, Some, is_some};
 ghost use Rattle.std.specs.Set.{ClonesAreEqual};
 ghost use Rattle.raft_base.specs.declared.log_id.LogIdOf.{LogIdOf as LogIdRecord};
@@ -9,15 +10,49 @@ ghost use Rattle.raft_refinement.specs.Electing.{HasCommitted, KnowsMatches, Pro
 ghost use Rattle.raft_refinement.specs.Seen.{leaders_of, seen};
 ghost use Rattle.raft_refinement.specs.Server.{IsInHistory, Place};
 ghost use Rattle.raft_safety.specs.Events.{log_after};
-ghost use Rattle.raft_safety.specs.Facts.{IsElected};
+ghost use Rattle.raft_safety.specs.Facts.{HasAcked, IsElected};
 ghost use Rattle.raft_safety.specs.Ranks.{IsAmong};
 ghost use Rattle.raft_state.specs.log_id_list.FullLog.{full_log};
 ghost use Rattle.raft_state.specs.log_id_list.LogReads.{last_id};
 ghost use Rattle.raft_state.specs.raft_state.VoteAndLog.{vote_of};
 
-use raft_base::{Instant, LeaderIdentity, Node, NodeId};
+use raft_base::{Instant, LeaderIdentity, LogIdOf, Node, NodeId};
 use raft_handlers::{HandlerError, Leader, State};
 use raft_state::EntryOf;
+
+/// Counts what is on disk of the leader's own log, as `Leader::handle_flushed` does. If the leader
+/// has acknowledged that to itself, what it counts stays true.
+pub fn flushes<
+    NID: NodeId,
+    N: Node,
+    I: Instant,
+    L: LeaderIdentity<Id = NID, Committed = C> + Drop,
+    C: Ord + Copy + Default + Drop + 'static,
+    D,
+>(
+    leader: &mut Leader<NID, N, C>,
+    state: &State<NID, N, I, L>,
+    upto: Option<LogIdOf<C>>,
+) -> Result<(), HandlerError>
+    ghost p: { Place L C NID D }
+    requires nodes { (x y : NID) → IsTrue (NID.eq x y) → x ≡ y }
+    requires node { leader.old.id ≡ p.server }
+    requires server { let by = compared NID.Ord N.eq L.LeaderIdentity C.Ord in
+        IsInHistory (leaders_of by) p (seen state.now) }
+    requires log { p.history.leader_log (L.committed (vote_of state.now).leader_id) p.server
+        ≡ log_after (p.history.events p.server) }
+    requires knows { let by = compared NID.Ord N.eq L.LeaderIdentity C.Ord in
+        KnowsMatches (leaders_of by) p (vote_of state.now).leader_id p.server
+        (λ r. match_of (entry_of NID.eq leader.old r)) }
+    requires flushed { (id : LogIdRecord C) → upto ≡ Some id →
+        HasAcked (L.committed (vote_of state.now).leader_id) p.server id.index
+        (p.history.events p.server) }
+    ensures knows { let by = compared NID.Ord N.eq L.LeaderIdentity C.Ord in
+        KnowsMatches (leaders_of by) p (vote_of state.now).leader_id p.server
+        (λ r. match_of (entry_of NID.eq leader.new r)) }
+{
+    leader.handle_flushed(state, upto)
+}
 
 /// Commits, as `Leader::commit` does: what is new is committed by the rule, if the leader counts
 /// true matches by the config in effect in its log.
