@@ -1,13 +1,46 @@
 -- What a leader counts as the matches of its members stays true.
-use Rattle.std.specs.Prelude.{◌≡◌, ◌⊎◌, Bool, true, false, cond, Option, Some, None, Result, Ok, Err, OnErr, OnOk}
+use Rattle.std.specs.Prelude.{
+  ◌≡◌,
+  ◌⊎◌,
+  ℕ,
+  ◌^◌,
+  max,
+  nat_lt,
+  Bool,
+  true,
+  false,
+  cond,
+  if◌then◌else◌,
+  Option,
+  Some,
+  None,
+  is_some,
+  Result,
+  Ok,
+  Err,
+  OnErr,
+  OnOk,
+}
+use Rattle.std.specs.Result.{result_unwrap_or}
+use Rattle.std.specs.declared.cmp.Ordering.{Ordering}
 use Rattle.std.proofs.Common.{refl, sym, ap, subst, ◌∙◌, inl, inr}
-use Rattle.raft_base.specs.LogId.{id_le}
+use Rattle.raft_base.specs.LogId.{id_le, id_lt, next_index}
 use Rattle.raft_base.specs.declared.log_id.LogIdOf.{LogIdOf}
 use Rattle.raft_handlers.specs.Compared.{LeaderMembers, compared}
 use Rattle.raft_handlers.specs.Leadership.{Leadership, WritesEntry, entry_of, flushed_entry}
+use Rattle.raft_handlers.specs.Responses.{TakesResponse, after_outcome, after_response, answers, as_refused, end_after, with_hint}
 use Rattle.raft_handlers.specs.declared.error.HandlerError.{HandlerError}
+use Rattle.raft_handlers.specs.declared.error.HandlerError.TheVariants.{ForeignResponse, UnknownMember}
+use Rattle.raft_handlers.specs.declared.message.Outcome.{Outcome}
+use Rattle.raft_handlers.specs.declared.message.Outcome.TheVariants.{Conflict, HigherVote, Matches}
+use Rattle.raft_handlers.specs.declared.message.Response.{Response}
+use Rattle.raft_progress.specs.entry.EntryTable.{entry_after_conflict, with_matching, with_search_end}
+use Rattle.raft_progress.specs.inflight.InflightTable.{inflight_after_ack, inflight_after_conflict}
 use Rattle.raft_progress.specs.progress.Comparisons.{OrdMembers}
 use Rattle.raft_progress.specs.declared.entry.ProgressEntryOf.{ProgressEntryOf}
+use Rattle.raft_progress.specs.declared.inflight.InflightError.{InflightError}
+use Rattle.raft_progress.specs.declared.inflight.InflightError.TheVariants.{ConflictBelowMatching, IndexTooLarge, MatchingRegress}
+use Rattle.raft_progress.specs.declared.inflight.InflightOf.{InflightOf}
 use Rattle.raft_safety.specs.Events.{log_after}
 use Rattle.raft_safety.specs.Facts.{HasAcked}
 use Rattle.raft_state.specs.log_id_list.FullLog.{full_log}
@@ -15,7 +48,7 @@ use Rattle.raft_state.specs.log_id_list.LogReads.{id_at}
 use Rattle.raft_state.specs.raft_state.Valid.{none_or_logged}
 use Rattle.raft_state.specs.raft_state.VoteAndLog.{log_view_of, vote_of}
 use Rattle.raft_state.specs.declared.raft_state.RaftStateIn.{RaftStateIn}
-use Rattle.raft_refinement.specs.Electing.{KnowsMatches, match_of}
+use Rattle.raft_refinement.specs.Electing.{Acknowledges, KnowsMatches, match_of}
 use Rattle.raft_refinement.specs.Seen.{leaders_of, seen}
 use Rattle.raft_refinement.specs.Server.{IsInHistory, IsInLog, Leaders, Place}
 use Rattle.raft_refinement.proofs.SeenLemmas.{exact_found}
@@ -127,3 +160,131 @@ module _ {K N I L C E : Type 0} (ids : OrdMembers K) (node_eq : N → N → Bool
           keeps_matches (leaders_of (compared ids node_eq kind logs)) p ids.eq nodes (vote_of s).leader_id p.server old new knows
           (not_counted f)
       by (Some entry) f = with_entry entry f (id_le logs.cmp entry.matching upto) refl
+
+-- ---- a response
+
+-- a conflict that is taken leaves the match as it was
+search_match : {C : Type 0} (entry next : ProgressEntryOf C) (index : ℕ) (r : Result (InflightOf C) InflightError)
+    → with_search_end entry index r ≡ Ok next → next.matching ≡ entry.matching
+search_match {C} entry next index (Err e) is = cc
+search_match {C} entry next index (Ok inflight) is =
+    by (nat_lt index entry.searching_end) (nat_lt index (next_index entry.matching)) is
+  where
+    by : (a b : Bool) → (let r : Result (ProgressEntryOf C) InflightError = if a
+        then (if b then Err ConflictBelowMatching else Ok (record entry { inflight = inflight; searching_end = index }))
+        else Ok (record entry { inflight = inflight }) in r ≡ Ok next) → next.matching ≡ entry.matching
+    by true true is = cc
+    by true false is =
+        let same : (record entry { inflight = inflight; searching_end = index }) ≡ next = cc in
+        sym (ap (λ (x : ProgressEntryOf C). x.matching) same)
+    by false b is =
+        let same : (record entry { inflight = inflight }) ≡ next = cc in
+        sym (ap (λ (x : ProgressEntryOf C). x.matching) same)
+
+conflict_match : {C : Type 0} (entry next : ProgressEntryOf C) (request : Option ℕ) (index : ℕ)
+    → entry_after_conflict entry request index ≡ Ok next → next.matching ≡ entry.matching
+conflict_match entry next None index is = search_match entry next index (Ok entry.inflight) is
+conflict_match entry next (Some id) index is =
+    search_match entry next index (inflight_after_conflict entry.inflight id index) is
+
+unwrapped_match : {C : Type 0} (entry : ProgressEntryOf C) (index : ℕ) (r : Result (ProgressEntryOf C) InflightError)
+    → entry_after_conflict entry None index ≡ r → (result_unwrap_or r entry).matching ≡ entry.matching
+unwrapped_match entry index (Ok x) is = conflict_match entry x None index is
+unwrapped_match entry index (Err e) is = refl
+
+hint_match : {C : Type 0} (entry next : ProgressEntryOf C) (request : Option ℕ) (index : ℕ) (last : Option ℕ)
+    (r : Result (ProgressEntryOf C) InflightError) → entry_after_conflict entry request index ≡ r
+    → as_refused (with_hint last r) ≡ Ok next → next.matching ≡ entry.matching
+hint_match {C} entry next request index last (Err e) was is = cc
+hint_match {C} entry next request index last (Ok x) was is =
+    let same : result_unwrap_or (entry_after_conflict x None (end_after last)) x ≡ next = cc in
+    sym (ap (λ (y : ProgressEntryOf C). y.matching) same)
+    ∙ unwrapped_match x (end_after last) (entry_after_conflict x None (end_after last)) refl
+    ∙ conflict_match entry x request index was
+
+-- an acknowledgement that is taken is the match
+ack_match : {C : Type 0} (cmp : C → C → Ordering) (entry next : ProgressEntryOf C) (upto : Option (LogIdOf C))
+    (r : Result (InflightOf C) InflightError) → as_refused (with_matching cmp entry upto r) ≡ Ok next → next.matching ≡ upto
+ack_match {C} cmp entry next upto (Err e) is = cc
+ack_match {C} cmp entry next upto (Ok inflight) is =
+    by (id_lt cmp upto entry.matching) (nat_lt (next_index upto) (2 ^ 64)) is
+  where
+    taken : ProgressEntryOf C
+    taken = record entry {
+      matching = upto;
+      inflight = inflight;
+      searching_end = max entry.searching_end (next_index upto);
+    }
+
+    by : (a b : Bool) → as_refused (let r : Result (ProgressEntryOf C) InflightError = if a then Err MatchingRegress
+        else (if b then Ok taken else Err IndexTooLarge) in r) ≡ Ok next → next.matching ≡ upto
+    by true b is = cc
+    by false true is =
+        let same : taken ≡ next = cc in
+        sym (ap (λ (x : ProgressEntryOf C). x.matching) same)
+    by false false is = cc
+
+-- after a response the match is as it was, or what the response acknowledges
+response_match : {L C : Type 0} (cmp : C → C → Ordering) (entry next : ProgressEntryOf C) (request : Option ℕ) (o : Outcome L C)
+    → after_outcome cmp entry request o ≡ Ok next
+    → (next.matching ≡ entry.matching) ⊎ ((is_some request ≡ true) × (o ≡ Matches next.matching))
+response_match {L} {C} cmp entry next (Some request) (Matches upto) is =
+    inr (
+      refl,
+      sym (ap (λ (x : Option (LogIdOf C)). let y : Outcome L C = Matches x in y)
+          (ack_match cmp entry next upto (inflight_after_ack cmp entry.inflight request upto) is)),
+    )
+response_match {L} {C} cmp entry next None (Matches upto) is =
+    let same : entry ≡ next = cc in
+    inl (sym (ap (λ (x : ProgressEntryOf C). x.matching) same))
+response_match {L} {C} cmp entry next None (Conflict index last) is =
+    inl (hint_match entry next None index last (entry_after_conflict entry None index) refl is)
+response_match {L} {C} cmp entry next (Some request) (Conflict index last) is =
+    inl (hint_match entry next (Some request) index last (entry_after_conflict entry (Some request) index) refl is)
+response_match {L} {C} cmp entry next None (HigherVote vote) is = cc
+response_match {L} {C} cmp entry next (Some request) (HigherVote vote) is = cc
+
+-- a leader that takes a response, of which what it acknowledges is true
+module _ {K N L C E : Type 0} (k : Leaders L C K) (p : Place L C K E) (ids : K → K → Bool) (logs : OrdMembers C)
+    (nodes : (x y : K) → ids x y ≡ true → x ≡ y) (leader : L) (old new : Leadership K N C) (from : K) (response : Response L C)
+    (knows : KnowsMatches k p leader p.server (λ r. match_of (entry_of ids old r)))
+    (in_log : answers logs.eq response old ≡ true → (id : LogIdOf C) → Acknowledges response id
+    → IsInLog p.first p.terms (p.history.leader_log (k.committed leader) p.server) id)
+    (acked : answers logs.eq response old ≡ true → (id : LogIdOf C) → Acknowledges response id
+    → HasAcked (k.committed leader) p.server id.index (p.history.events from)) where
+  abbrev KnowsAfter : Type 0
+  KnowsAfter = KnowsMatches k p leader p.server (λ r. match_of (entry_of ids new r))
+
+  true_after : answers logs.eq response old ≡ true → (entry next : ProgressEntryOf C) → entry_of ids old from ≡ Some entry
+      → (next.matching ≡ entry.matching) ⊎ ((is_some response.request ≡ true) × (response.outcome ≡ Matches next.matching))
+      → IsTrueMatch k p leader p.server from next.matching
+  true_after mine entry next f (inl same) = record {
+    in_log = λ m e. knows.in_log from m (ap match_of f ∙ sym same ∙ e);
+    acked = λ m e. knows.acked from m (ap match_of f ∙ sym same ∙ e);
+  }
+  true_after mine entry next f (inr is) = record {
+    in_log = λ m e. in_log mine m (is.0, is.1 ∙ ap (λ (x : Option (LogIdOf C)). let y : Outcome L C = Matches x in y) e);
+    acked = λ m e. acked mine m (is.0, is.1 ∙ ap (λ (x : Option (LogIdOf C)). let y : Outcome L C = Matches x in y) e);
+  }
+
+  pub response_counted : (r : Result (Unit {0}) HandlerError) → TakesResponse ids logs from response old new r → KnowsAfter
+  response_counted (Err e) takes = same_matches k p ids nodes leader p.server old new knows takes.err
+  response_counted (Ok x) takes = by (answers logs.eq response old) refl
+    where
+      refused : (e : HandlerError) → (let r : Result (Unit {0}) HandlerError = Ok x in r ≡ Err e) → KnowsAfter
+      refused e is = cc
+
+      with_next : answers logs.eq response old ≡ true → (entry : ProgressEntryOf C) → entry_of ids old from ≡ Some entry
+          → (r : Result (ProgressEntryOf C) HandlerError) → after_response logs.cmp entry response ≡ r → KnowsAfter
+      with_next mine entry f (Err e) is = refused e (takes.refused entry e mine f is)
+      with_next mine entry f (Ok next) is =
+          writes_match k p ids nodes leader p.server old new knows from next (takes.taken entry next mine f is)
+          (true_after mine entry next f (response_match logs.cmp entry next response.request response.outcome is))
+
+      with_entry : answers logs.eq response old ≡ true → (o : Option (ProgressEntryOf C)) → entry_of ids old from ≡ o → KnowsAfter
+      with_entry mine None f = refused UnknownMember (takes.unknown mine f)
+      with_entry mine (Some entry) f = with_next mine entry f (after_response logs.cmp entry response) refl
+
+      by : (b : Bool) → answers logs.eq response old ≡ b → KnowsAfter
+      by false e = refused ForeignResponse (takes.foreign e)
+      by true e = with_entry e (entry_of ids old from) refl

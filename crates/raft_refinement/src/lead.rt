@@ -5,10 +5,11 @@ ghost use Rattle.std.specs.Set.{ClonesAreEqual};
 ghost use Rattle.raft_base.specs.declared.log_id.LogIdOf.{LogIdOf as LogIdRecord};
 ghost use Rattle.raft_handlers.specs.Compared.{compared};
 ghost use Rattle.raft_handlers.specs.Leadership.{entry_of, granted_by};
+ghost use Rattle.raft_handlers.specs.Responses.{answers};
 ghost use Rattle.raft_members.specs.quorum.Majority.{is_joint_majority};
-ghost use Rattle.raft_refinement.specs.Electing.{HasCommitted, KnowsMatches, ProposesByRule, match_of};
+ghost use Rattle.raft_refinement.specs.Electing.{Acknowledges, HasCommitted, KnowsMatches, ProposesByRule, match_of};
 ghost use Rattle.raft_refinement.specs.Seen.{leaders_of, seen};
-ghost use Rattle.raft_refinement.specs.Server.{IsInHistory, Place};
+ghost use Rattle.raft_refinement.specs.Server.{IsInHistory, IsInLog, Place};
 ghost use Rattle.raft_safety.specs.Events.{log_after};
 ghost use Rattle.raft_safety.specs.Facts.{HasAcked, IsElected};
 ghost use Rattle.raft_safety.specs.Ranks.{IsAmong};
@@ -17,7 +18,7 @@ ghost use Rattle.raft_state.specs.log_id_list.LogReads.{last_id};
 ghost use Rattle.raft_state.specs.raft_state.VoteAndLog.{vote_of};
 
 use raft_base::{Instant, LeaderIdentity, LogIdOf, Node, NodeId};
-use raft_handlers::{HandlerError, Leader, State};
+use raft_handlers::{HandlerError, Leader, Response, State};
 use raft_state::EntryOf;
 
 /// Counts what is on disk of the leader's own log, as `Leader::handle_flushed` does. If the leader
@@ -52,6 +53,35 @@ pub fn flushes<
         (λ r. match_of (entry_of NID.eq leader.new r)) }
 {
     leader.handle_flushed(state, upto)
+}
+
+/// Takes a member's response, as `Leader::handle_response` does. If what the response acknowledges
+/// is true, what the leader counts stays true. A refused response and a conflict raise no match.
+///
+/// `at` has the place of the leader and its leader id.
+pub fn takes<
+    NID: NodeId,
+    N: Node,
+    L: LeaderIdentity<Id = NID, Committed = C> + Drop,
+    C: Ord + Copy + Default + Drop + 'static,
+    D,
+>(leader: &mut Leader<NID, N, C>, from: &NID, response: &Response<L, C>) -> Result<(), HandlerError>
+    ghost at: { Place L C NID D × L }
+    requires nodes { (x y : NID) → IsTrue (NID.eq x y) → x ≡ y }
+    requires knows { let by = compared NID.Ord N.eq L.LeaderIdentity C.Ord in
+        KnowsMatches (leaders_of by) at.0 at.1 at.0.server
+        (λ r. match_of (entry_of NID.eq leader.old r)) }
+    requires in_log { IsTrue (answers C.eq response.now leader.old) → (id : LogIdRecord C) →
+        Acknowledges response.now id → IsInLog at.0.first at.0.terms
+        (at.0.history.leader_log (L.committed at.1) at.0.server) id }
+    requires acked { IsTrue (answers C.eq response.now leader.old) → (id : LogIdRecord C) →
+        Acknowledges response.now id → HasAcked (L.committed at.1) at.0.server id.index
+        (at.0.history.events from.now) }
+    ensures knows { let by = compared NID.Ord N.eq L.LeaderIdentity C.Ord in
+        KnowsMatches (leaders_of by) at.0 at.1 at.0.server
+        (λ r. match_of (entry_of NID.eq leader.new r)) }
+{
+    leader.handle_response(from, response)
 }
 
 /// Commits, as `Leader::commit` does: what is new is committed by the rule, if the leader counts
