@@ -244,6 +244,64 @@ response_match {L} {C} cmp entry next (Some request) (Conflict index last) is =
 response_match {L} {C} cmp entry next None (HigherVote vote) is = cc
 response_match {L} {C} cmp entry next (Some request) (HigherVote vote) is = cc
 
+module _ {K N L C : Type 0} (eq : K → K → Bool) (logs : OrdMembers C) (old new : Leadership K N C) (from : K) (response : Response L C) where
+  -- a leader has taken a response of a member
+  record IsTaken : Type 0 where
+    pub entry : ProgressEntryOf C
+    pub next : ProgressEntryOf C
+    pub mine : answers logs.eq response old ≡ true
+    pub known : entry_of eq old from ≡ Some entry
+    pub after : after_response logs.cmp entry response ≡ Ok next
+    pub writes : WritesEntry eq old from next new
+
+  taken_or_same : (r : Result (Unit {0}) HandlerError) → TakesResponse eq logs from response old new r → (new ≡ old) ⊎ IsTaken
+  taken_or_same (Err e) takes = inl takes.err
+  taken_or_same (Ok x) takes = by (answers logs.eq response old) refl
+    where
+      refused : (e : HandlerError) → (let r : Result (Unit {0}) HandlerError = Ok x in
+          r ≡ Err e) → (new ≡ old) ⊎ IsTaken
+      refused e is = cc
+
+      with_next : answers logs.eq response old ≡ true → (entry : ProgressEntryOf C) → entry_of eq old from ≡ Some entry
+          → (r : Result (ProgressEntryOf C) HandlerError) → after_response logs.cmp entry response ≡ r → (new ≡ old) ⊎ IsTaken
+      with_next mine entry f (Err e) is = refused e (takes.refused entry e mine f is)
+      with_next mine entry f (Ok next) is =
+          inr (record {
+            entry = entry;
+            next = next;
+            mine = mine;
+            known = f;
+            after = is;
+            writes = takes.taken entry next mine f is;
+          })
+
+      with_entry : answers logs.eq response old ≡ true → (o : Option (ProgressEntryOf C)) → entry_of eq old from ≡ o
+          → (new ≡ old) ⊎ IsTaken
+      with_entry mine None f = refused UnknownMember (takes.unknown mine f)
+      with_entry mine (Some entry) f = with_next mine entry f (after_response logs.cmp entry response) refl
+
+      by : (b : Bool) → answers logs.eq response old ≡ b → (new ≡ old) ⊎ IsTaken
+      by false e = refused ForeignResponse (takes.foreign e)
+      by true e = with_entry e (entry_of eq old from) refl
+
+  -- a response changes no membership
+  pub response_members : (r : Result (Unit {0}) HandlerError) → TakesResponse eq logs from response old new r
+      → new.followers.membership ≡ old.followers.membership
+  response_members r takes = by (taken_or_same r takes)
+    where
+      by : (new ≡ old) ⊎ IsTaken → new.followers.membership ≡ old.followers.membership
+      by (inl same) = ap (λ (l : Leadership K N C). l.followers.membership) same
+      by (inr is) = is.writes.member.members
+
+  -- and nothing but what is known of the members
+  pub response_node : (r : Result (Unit {0}) HandlerError) → TakesResponse eq logs from response old new r
+      → new ≡ record old { followers = new.followers }
+  response_node r takes = by (taken_or_same r takes)
+    where
+      by : (new ≡ old) ⊎ IsTaken → new ≡ record old { followers = new.followers }
+      by (inl same) = subst (λ (l : Leadership K N C). l ≡ record old { followers = l.followers }) (sym same) refl
+      by (inr is) = is.writes.rest
+
 -- a leader that takes a response, of which what it acknowledges is true
 module _ {K N L C E : Type 0} (k : Leaders L C K) (p : Place L C K E) (ids : K → K → Bool) (logs : OrdMembers C)
     (nodes : (x y : K) → ids x y ≡ true → x ≡ y) (leader : L) (old new : Leadership K N C) (from : K) (response : Response L C)
@@ -268,23 +326,11 @@ module _ {K N L C E : Type 0} (k : Leaders L C K) (p : Place L C K E) (ids : K �
   }
 
   pub response_counted : (r : Result (Unit {0}) HandlerError) → TakesResponse ids logs from response old new r → KnowsAfter
-  response_counted (Err e) takes = same_matches k p ids nodes leader p.server old new knows takes.err
-  response_counted (Ok x) takes = by (answers logs.eq response old) refl
+  response_counted r takes = by (taken_or_same ids logs old new from response r takes)
     where
-      refused : (e : HandlerError) → (let r : Result (Unit {0}) HandlerError = Ok x in r ≡ Err e) → KnowsAfter
-      refused e is = cc
-
-      with_next : answers logs.eq response old ≡ true → (entry : ProgressEntryOf C) → entry_of ids old from ≡ Some entry
-          → (r : Result (ProgressEntryOf C) HandlerError) → after_response logs.cmp entry response ≡ r → KnowsAfter
-      with_next mine entry f (Err e) is = refused e (takes.refused entry e mine f is)
-      with_next mine entry f (Ok next) is =
-          writes_match k p ids nodes leader p.server old new knows from next (takes.taken entry next mine f is)
-          (true_after mine entry next f (response_match logs.cmp entry next response.request response.outcome is))
-
-      with_entry : answers logs.eq response old ≡ true → (o : Option (ProgressEntryOf C)) → entry_of ids old from ≡ o → KnowsAfter
-      with_entry mine None f = refused UnknownMember (takes.unknown mine f)
-      with_entry mine (Some entry) f = with_next mine entry f (after_response logs.cmp entry response) refl
-
-      by : (b : Bool) → answers logs.eq response old ≡ b → KnowsAfter
-      by false e = refused ForeignResponse (takes.foreign e)
-      by true e = with_entry e (entry_of ids old from) refl
+      by : (new ≡ old) ⊎ IsTaken ids logs old new from response → KnowsAfter
+      by (inl same) = same_matches k p ids nodes leader p.server old new knows same
+      by (inr is) =
+          writes_match k p ids nodes leader p.server old new knows from is.next is.writes
+          (true_after is.mine is.entry is.next is.known
+          (response_match logs.cmp is.entry is.next response.request response.outcome is.after))

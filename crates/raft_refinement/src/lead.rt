@@ -51,6 +51,8 @@ pub fn flushes<
     ensures knows { let by = compared NID.Ord N.eq L.LeaderIdentity C.Ord in
         KnowsMatches (leaders_of by) p (vote_of state.now).leader_id p.server
         (λ r. match_of (entry_of NID.eq leader.new r)) }
+    ensures members { leader.new.followers.membership ≡ leader.old.followers.membership }
+    ensures node { leader.new ≡ record leader.old { followers = leader.new.followers } }
 {
     leader.handle_flushed(state, upto)
 }
@@ -80,6 +82,8 @@ pub fn takes<
     ensures knows { let by = compared NID.Ord N.eq L.LeaderIdentity C.Ord in
         KnowsMatches (leaders_of by) at.0 at.1 at.0.server
         (λ r. match_of (entry_of NID.eq leader.new r)) }
+    ensures members { leader.new.followers.membership ≡ leader.old.followers.membership }
+    ensures node { leader.new ≡ record leader.old { followers = leader.new.followers } }
 {
     leader.handle_response(from, response)
 }

@@ -56,4 +56,6 @@ returns g c =
           (assumption (c.requires)) own is log knows flushed c.handle_flushed.result c.handle_flushed.ensures.logged
           c.handle_flushed.ensures.counted c.handle_flushed.ensures.stale c.handle_flushed.ensures.not_counted
           c.handle_flushed.ensures.err;
+      members = c.handle_flushed.ensures.members;
+      node = c.handle_flushed.ensures.node;
     }

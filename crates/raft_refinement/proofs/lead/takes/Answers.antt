@@ -6,7 +6,7 @@ use Rattle.raft_progress.specs.progress.Comparisons.{OrdMembers}
 use Rattle.raft_safety.specs.Facts.{HasAcked}
 use Rattle.raft_refinement.specs.Electing.{Acknowledges, KnowsMatches, match_of}
 use Rattle.raft_refinement.specs.Server.{IsInLog, Leaders}
-use Rattle.raft_refinement.proofs.MatchingLemmas.{response_counted}
+use Rattle.raft_refinement.proofs.MatchingLemmas.{response_counted, response_members, response_node}
 use Rattle.raft_refinement.proofs.lead.takes.Goals as goal
 
 pub returns : goal.returns
@@ -37,5 +37,9 @@ returns g c =
     record {
       knows = response_counted k g.at.0 g.NID.PartialEq.eq logs (assumption (c.requires)) g.at.1 c.args.leader.now
           c.handle_response.new.self c.args.from.now c.args.response.now knows in_log acked c.handle_response.result
+          c.handle_response.ensures.takes;
+      members = response_members g.NID.PartialEq.eq logs c.args.leader.now c.handle_response.new.self c.args.from.now c.args.response.now c.handle_response.result
+          c.handle_response.ensures.takes;
+      node = response_node g.NID.PartialEq.eq logs c.args.leader.now c.handle_response.new.self c.args.from.now c.args.response.now c.handle_response.result
           c.handle_response.ensures.takes;
     }
