@@ -133,11 +133,14 @@ module _ {K N I L C D E : Type 0} (ids : OrdMembers K) (node_eq : N → N → Bo
 
   -- the response of a call is by the rules
   pub appends_by_rule : {X : Type 0} (nothing : X) (r : Result (Response L C × X) HandlerError)
-      → (is_followed kind.order request.leader_id old ≡ false → r ≡ Ok (record {
-        leader_id = kind.committed request.leader_id;
-        request = request.request;
-        outcome = HigherVote (vote_of old);
-      }, nothing))
+      → (is_followed kind.order request.leader_id old ≡ false → r ≡ Ok (
+        record {
+          leader_id = kind.committed request.leader_id;
+          request = request.request;
+          outcome = HigherVote (vote_of old);
+        },
+        nothing,
+      ))
       → IfOk r (λ made. Answers logs ids.eq node_eq request made.0.outcome old new)
       → IfOk r (λ made. AnswersByRule (leaders_of (compared ids node_eq kind logs)) p request.leader_id made.0.outcome
       (p.history.events p.server) (seen new))
@@ -197,11 +200,14 @@ module _ {K N I L C E : Type 0} {ids : OrdMembers K} (node_eq : N → N → Bool
 
   -- the response of a call is by the rules
   pub installs_by_rule : {X : Type 0} (nothing : X) (r : Result (Response L C × X) HandlerError)
-      → (is_followed kind.order request.leader_id old ≡ false → r ≡ Ok (record {
-        leader_id = kind.committed request.leader_id;
-        request = Some request.request;
-        outcome = HigherVote (vote_of old);
-      }, nothing))
+      → (is_followed kind.order request.leader_id old ≡ false → r ≡ Ok (
+        record {
+          leader_id = kind.committed request.leader_id;
+          request = Some request.request;
+          outcome = HigherVote (vote_of old);
+        },
+        nothing,
+      ))
       → IfOk r (λ made. IfHigherVote made.0.outcome (λ _. is_followed kind.order request.leader_id old ≡ false))
       → IfOk r (λ made. AnswersSnapshot logs kind.eq (IsSnapshotCopy ids.eq node_eq) request.meta made.0.outcome
       (heard kind.order request.leader_id old) new)
