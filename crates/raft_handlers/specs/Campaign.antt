@@ -1,7 +1,5 @@
 -- What a candidate knows, and what elects it.
-use Rattle.std.specs.Prelude.{◌≡◌, ◌≤◌, ◌+◌, ◌^◌, ◌⊎◌, ℕ, Bool, false, max, ◌&&◌, ◌||◌, not, nat_lt, List, length, Option, Some, is_some, IsTrue}
-use Rattle.std.specs.List.{filter}
-use Rattle.std.specs.Set.{is_member}
+use Rattle.std.specs.Prelude.{◌≡◌, ◌≤◌, ◌+◌, ◌^◌, ◌⊎◌, ℕ, Bool, false, max, ◌&&◌, ◌||◌, Option, Some, is_some, IsTrue}
 use Rattle.std.specs.Option.{option_map_or}
 use Rattle.std.specs.declared.cmp.Ordering.TheVariants.{Greater}
 use mathlib.Core.Bool.{beq}
@@ -9,7 +7,7 @@ use Rattle.raft_base.specs.UTime.{moment_of, utime_of}
 use Rattle.raft_base.specs.Vote.{vote_cmp}
 use Rattle.raft_base.specs.declared.log_id.LogIdOf.{LogIdOf}
 use Rattle.raft_base.specs.declared.vote.VoteIn.{VoteIn}
-use Rattle.raft_members.specs.quorum.Majority.{is_joint_majority, is_voter_of}
+use Rattle.raft_members.specs.quorum.Majority.{is_voter_of}
 use Rattle.raft_members.specs.membership.Stored.{membership_of}
 use Rattle.raft_progress.specs.progress.ProgressView.{state}
 use Rattle.raft_progress.specs.tracked.EachConfig.{MajorityOfEach}
@@ -25,14 +23,12 @@ use Rattle.raft_handlers.specs.declared.error.HandlerError.{HandlerError}
 use Rattle.raft_handlers.specs.declared.error.HandlerError.TheVariants.{NoNextTerm, NotElected, NotLeader, NotVoter, OutOfMemory}
 use Rattle.raft_handlers.specs.declared.message.VoteResponse.{VoteResponse}
 
--- the node that campaigns, its vote, its last log id, who of the members has voted for it, and the
--- voters that have not refused
+-- the node that campaigns, its vote, its last log id, and who of the members has voted for it
 pub record Campaign (K N L C : Type 0) : Type 0 where
   pub id : K
   pub vote : VoteIn L
   pub last_log_id : Option (LogIdOf C)
   pub votes : TrackedView K N Bool Bool
-  pub not_refused : List K
 
 module _ {K N L C : Type 0} (eq : K → K → Bool) where
   -- whether an id is a member of the membership that votes are counted by
@@ -46,17 +42,6 @@ module _ {K N L C : Type 0} (eq : K → K → Bool) where
   -- a majority of each config has voted for the candidate, and there is a config
   abbrev pub HasMajorities : Campaign K N L C → Type 0
   HasMajorities c = MajorityOfEach eq c.votes (λ v. v)
-
-  -- the voters that have not refused have a majority of each config, and there is a config
-  abbrev pub can_have_majorities : Campaign K N L C → Bool
-  can_have_majorities c =
-      nat_lt 0 (length c.votes.membership.configs)
-      && is_joint_majority eq c.votes.membership.configs (is_member eq c.not_refused)
-
-  -- a voter has refused, and all else is as it was
-  abbrev pub CountsRefusalOf : K → Campaign K N L C → Campaign K N L C → Type 0
-  CountsRefusalOf from old new =
-      new ≡ record old { not_refused = filter (λ id. not (eq id from)) old.not_refused }
 
   -- the vote of a member is counted, and all else is as it was
   pub record CountsVoteOf (from : K) (old new : Campaign K N L C) : Type 0 where
@@ -72,10 +57,6 @@ same_vote eq a b = eq a.leader_id b.leader_id && beq a.committed b.committed
 -- whether a response grants this very vote
 abbrev pub grants_vote : {L : Type 0} → (L → L → Bool) → VoteIn L → VoteResponse L → Bool
 grants_vote eq vote response = response.granted && same_vote eq response.vote vote
-
--- whether a response of a member that has not voted yet is a refusal
-abbrev pub is_refusal : {L : Type 0} → VoteResponse L → (has_voted : Bool) → Bool
-is_refusal response has_voted = not response.granted && not has_voted
 
 -- a node may campaign if it is a voter of the effective or of the committed membership
 abbrev pub may_campaign : {K N C : Type 0} → (K → K → Bool) → K → Memberships C K N → Bool
@@ -103,9 +84,6 @@ pub record Campaigns {K N I L C : Type 0} (by : Compared K N L C) (id : K) (grea
       → IsTrue (is_counted by.id_eq made x)
   pub own_vote : (x : K)
       → has_vote_of by.id_eq made x ≡ (by.id_eq id x && is_counted by.id_eq made id)
-  pub none_refused : (x : K)
-      → is_member by.id_eq made.not_refused x
-      ≡ is_voter_of by.id_eq (in_effect old.membership_state).configs x
 
 -- why a node does not campaign: it may not, there is no greater term, or an allocation failed
 abbrev pub IsCampaignRefusal : {K N C : Type 0} → (K → K → Bool) → K → ℕ → Memberships C K N

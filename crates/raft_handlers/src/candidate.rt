@@ -1,8 +1,7 @@
 //! A candidate: it votes for itself, asks the others for their votes, and counts them.
 ghost use Rattle.std.specs.Prelude.{◌≡◌, ◌↔◌, max, false, IfErr, IfOk, IsTrue, OnErr};
 ghost use Rattle.std.specs.Set.{ClonesAreEqual};
-ghost use Rattle.raft_handlers.specs.Campaign.{Campaigns, CountsRefusalOf, CountsVoteOf, HasMajorities, IsCampaignRefusal, can_have_majorities, grants_vote, has_vote_of, is_refusal, may_campaign};
-ghost use Rattle.raft_handlers.specs.declared.candidate.Tally.TheVariants.{Lost, Won};
+ghost use Rattle.raft_handlers.specs.Campaign.{Campaigns, CountsVoteOf, HasMajorities, IsCampaignRefusal, grants_vote, may_campaign};
 ghost use Rattle.raft_handlers.specs.Compared.{compared};
 ghost use Rattle.raft_state.specs.raft_state.Sound.{IsSound};
 ghost use Rattle.raft_state.specs.raft_state.VoteAndLog.{vote_of};
@@ -14,7 +13,6 @@ use raft_base::{
     DisplayOption, Instant, LeaderIdentity, LogIdOf, LogStateReader, Node, NodeId, VoteIn,
 };
 use raft_members::membership::Configs;
-use raft_members::quorum::QuorumSet;
 use raft_progress::laws::{granted_is_threshold, quorums_know_granted};
 use raft_progress::{Progress, Tracked};
 use raft_state::{RaftStateIn, VoteStateReader};
@@ -35,17 +33,6 @@ pub fn may_lead<NID: NodeId, N: Node, I: Instant, L: Drop, C: Ord + Copy + Drop>
     state.membership_state.is_voter(id) || state.membership_state.committed().is_voter(id)
 }
 
-/// How an election stands.
-#[derive(Debug, Clone, Copy, PartialEq, Eq)]
-pub enum Tally {
-    /// A majority of each config has voted for the candidate.
-    Won,
-    /// The candidate may still be elected.
-    Pending,
-    /// So many voters have refused that the others have no majority of some config.
-    Lost,
-}
-
 /// A node that asks the voters of its effective membership for their votes.
 #[derive(Debug, Drop)]
 pub struct Candidate<NID: NodeId, N: Node, L, C> {
@@ -53,12 +40,10 @@ pub struct Candidate<NID: NodeId, N: Node, L, C> {
     vote: VoteIn<L>,
     last_log_id: Option<LogIdOf<C>>,
     votes: Tracked<NID, N, bool, bool>,
-    not_refused: Vec<NID>,
 }
 
 impl<NID: NodeId, N: Node, L, C> Model for Candidate<NID, N, L, C> {
     ghost use Rattle.std.specs.Prelude.{◌≡◌, false};
-    ghost use Rattle.std.specs.List.{IsDistinct};
     ghost use Rattle.raft_handlers.specs.Campaign.{Campaign};
     ghost use Rattle.raft_progress.specs.tracked.Tracked.{tracked_view};
 
@@ -69,11 +54,9 @@ impl<NID: NodeId, N: Node, L, C> Model for Candidate<NID, N, L, C> {
       vote = a.vote;
       last_log_id = a.last_log_id;
       votes = tracked_view a.votes;
-      not_refused = a.not_refused.items;
     } };
 
-    ghost invariant = { λ a. ((tracked_view a.votes).progress.default_part ≡ false)
-        × IsDistinct NID.eq a.not_refused.items };
+    ghost invariant = { λ a. (tracked_view a.votes).progress.default_part ≡ false };
 }
 
 impl<
@@ -112,14 +95,10 @@ impl<
         let vote = VoteIn::new(term + 1, id);
         let last_log_id = state.last_log_id().copied();
         let members = state.membership_state.effective().membership();
-        let alloc = *members.get_joint_config().allocator();
         let Ok(members) = members.try_clone() else {
             return Err(HandlerError::OutOfMemory);
         };
         let Ok(mut votes) = Tracked::new(members, false) else {
-            return Err(HandlerError::OutOfMemory);
-        };
-        let Ok(not_refused) = votes.progress().quorum_set().ids(alloc) else {
             return Err(HandlerError::OutOfMemory);
         };
         let _reply = votes.update(&id, true);
@@ -129,7 +108,6 @@ impl<
             vote,
             last_log_id,
             votes,
-            not_refused,
         })
     }
 
@@ -143,70 +121,17 @@ impl<
         }
     }
 
-    /// Counts the vote of a member, if the response grants this very vote, and the refusal of a
-    /// member that has not voted. Any other response changes nothing: compare its vote's term with
-    /// the greatest one that you have heard of.
-    ///
-    /// A response does not say which campaign it answers. So the refusal of an earlier campaign
-    /// counts too, if it comes late, and a vote that comes after it counts.
+    /// Counts the vote of a member, if the response grants this very vote. Any other response
+    /// changes nothing: compare its vote's term with the greatest one that you have heard of.
     pub fn handle_vote_response(&mut self, from: &NID, response: &VoteResponse<L>)
         ensures counted { IsTrue (grants_vote L.eq self.old.vote response.now) →
             CountsVoteOf NID.eq from.now self.old self.new }
-        ensures refused { grants_vote L.eq self.old.vote response.now ≡ false →
-            IsTrue (is_refusal response.now (has_vote_of NID.eq self.old from.now)) →
-            CountsRefusalOf NID.eq from.now self.old self.new }
         ensures ignored { grants_vote L.eq self.old.vote response.now ≡ false →
-            is_refusal response.now (has_vote_of NID.eq self.old from.now) ≡ false →
             self.new ≡ self.old }
     {
         if response.granted && response.vote == self.vote {
             let _reply = self.votes.update(from, true);
-        } else if !response.granted && !self.has_vote_of(from) {
-            self.not_refused.retain(|id| id != from);
         }
-    }
-
-    /// Whether a member has voted for the candidate.
-    fn has_vote_of(&self, id: &NID) -> bool
-        ensures { result ≡ has_vote_of NID.eq self.now id.now }
-    {
-        match self.votes.progress().try_get(id) {
-            Some(has_voted) => *has_voted,
-            None => false,
-        }
-    }
-
-    /// Returns how the election stands. It is won if a majority of each config has voted for the
-    /// candidate. Otherwise it is lost if the voters that have not refused have no majority of some
-    /// config: then stop waiting, and campaign again after a while.
-    pub fn tally(&self) -> Tally
-        ensures won { (result ≡ Won) ↔ HasMajorities NID.eq self.now }
-        ensures lost { (result ≡ Lost)
-            ↔ ((HasMajorities NID.eq self.now → ⊥)
-            × (can_have_majorities NID.eq self.now ≡ false)) }
-    {
-        if self.is_elected() {
-            return Tally::Won;
-        }
-        if self.can_be_elected() {
-            return Tally::Pending;
-        }
-        Tally::Lost
-    }
-
-    /// Whether the voters that have not refused have a majority of each config.
-    fn can_be_elected(&self) -> bool
-        ensures { result ≡ can_have_majorities NID.eq self.now }
-    {
-        if self.votes.membership().get_joint_config().is_empty() {
-            return false;
-        }
-        // Called for the proof alone: the progress has the configs of the membership.
-        quorums_know_granted(&self.votes);
-        self.votes
-            .progress()
-            .quorum_set()
-            .is_quorum(&self.not_refused)
     }
 
     /// Whether the candidate is elected: a majority of each config has voted for it.
@@ -243,7 +168,6 @@ impl<NID: NodeId, N: Node, L: fmt::Display, C: fmt::Display + Copy> fmt::Display
             vote,
             last_log_id,
             votes,
-            ..
         } = self;
         write!(
             f,

@@ -3,7 +3,7 @@
 use crate::asserts::assert_right;
 use crate::states::{StateOf, id, voter};
 use raft_base::{EmptyNode, LeaderAdv, LeaderKind, LeaderStd, VoteOf};
-use raft_handlers::{Candidate, HandlerError, Leader, Tally, VoteResponse};
+use raft_handlers::{Candidate, HandlerError, Leader, VoteResponse};
 use raft_testing::memory::on;
 use std::alloc::{AllocError, Global};
 use std::test::Fail;
@@ -19,24 +19,18 @@ pub type CandidateOf<K> = Candidate<
 /// Who responds, of which term, and whether the vote is granted.
 type Votes = &'static [(u64, u64, bool)];
 
-/// Votes for the candidate of term 6, and how its election stands then.
-const ROWS: &[(&str, Votes, Tally)] = &[
-    ("its own alone", &[], Tally::Pending),
-    ("one refusal", &[(2, 6, false)], Tally::Pending),
-    ("refusals", &[(2, 6, false), (3, 6, false)], Tally::Lost),
-    ("refusals of other terms", &[(2, 3, false), (3, 7, false)], Tally::Lost),
-    ("a refusal that comes twice", &[(2, 6, false), (2, 6, false)], Tally::Pending),
-    ("votes of other terms", &[(2, 5, true), (3, 7, true)], Tally::Pending),
-    ("votes of no members", &[(8, 6, true), (9, 6, true)], Tally::Pending),
-    ("refusals of no members", &[(8, 6, false), (9, 6, false)], Tally::Pending),
-    ("its own, again", &[(1, 6, true), (1, 6, true)], Tally::Pending),
-    ("one more", &[(2, 6, false), (3, 6, true)], Tally::Won),
-    ("a refusal after the vote", &[(3, 6, true), (3, 6, false), (2, 6, false)], Tally::Won),
-    ("a vote after all refusals", &[(2, 6, false), (3, 6, false), (3, 6, true)], Tally::Won),
+/// Votes for the candidate of term 6, and whether they elect it.
+const ROWS: &[(&str, Votes, bool)] = &[
+    ("its own alone", &[], false),
+    ("refusals", &[(2, 6, false), (3, 6, false)], false),
+    ("votes of other terms", &[(2, 5, true), (3, 7, true)], false),
+    ("votes of no members", &[(8, 6, true), (9, 6, true)], false),
+    ("its own, again", &[(1, 6, true), (1, 6, true)], false),
+    ("one more", &[(2, 6, false), (3, 6, true)], true),
 ];
 
-/// Counts votes, and returns how the election stands.
-fn count<K: LeaderKind<u64>>(candidate: &mut CandidateOf<K>, votes: Votes) -> Tally {
+/// Counts votes, and returns whether the candidate is elected.
+fn count<K: LeaderKind<u64>>(candidate: &mut CandidateOf<K>, votes: Votes) -> bool {
     for (from, term, granted) in votes {
         let response = VoteResponse {
             vote: VoteOf::<u64, K>::new(*term, 1),
@@ -44,7 +38,7 @@ fn count<K: LeaderKind<u64>>(candidate: &mut CandidateOf<K>, votes: Votes) -> Ta
         };
         candidate.handle_vote_response(from, &response);
     }
-    candidate.tally()
+    candidate.is_elected()
 }
 
 /// The candidate of term 6, which all elect.
@@ -52,23 +46,22 @@ pub fn candidate<K: LeaderKind<u64>>(
     state: &mut StateOf<K>,
 ) -> Result<CandidateOf<K>, HandlerError> {
     let mut candidate = Candidate::campaign(1, 5, state)?;
-    let _tally = count::<K>(&mut candidate, &[(2, 6, true), (3, 6, true)]);
+    let _elected = count::<K>(&mut candidate, &[(2, 6, true), (3, 6, true)]);
     Ok(candidate)
 }
 
-/// Whether the election of the candidate of term 6 stands as it should after votes, and the
-/// candidate leads if it is won. Term 5 is the greatest that it has heard of, and its own vote is of
-/// term 3.
+/// Whether the candidate of term 6 is elected by votes exactly if it should, and leads then. Term 5
+/// is the greatest that it has heard of, and its own vote is of term 3.
 fn elects<K: LeaderKind<u64>>(
     state: &mut StateOf<K>,
     votes: Votes,
-    right: Tally,
+    elected: bool,
 ) -> Result<bool, HandlerError> {
     let mut candidate = Candidate::campaign(1, 5, state)?;
     let vote = VoteOf::<u64, K>::new(6, 1);
     let request = candidate.request();
     let promised = *state.vote.get();
-    let tally = count::<K>(&mut candidate, votes);
+    let is_elected = count::<K>(&mut candidate, votes);
     let leads = match Leader::new(state, &candidate) {
         Ok(leader) => leader.leads(state),
         Err(refused) => refused != HandlerError::NotElected,
@@ -77,19 +70,18 @@ fn elects<K: LeaderKind<u64>>(
         request.vote == vote,
         request.last_log_id == id::<K>(Some((2, 4))),
         promised == vote,
-        tally == right,
-        candidate.is_elected() == (right == Tally::Won),
-        leads == (right == Tally::Won),
+        is_elected == elected,
+        leads == elected,
     ];
-    Ok(are_right == [true; 6])
+    Ok(are_right == [true; 5])
 }
 
-/// Returns the name of the first row after which the election stands otherwise.
+/// Returns the name of the first row that does not elect exactly if it should.
 fn fails<K: LeaderKind<u64>>(alloc: Global) -> Result<Option<&'static str>, HandlerError> {
-    for (name, votes, right) in ROWS {
+    for (name, votes, elected) in ROWS {
         if !on(
             voter::<K>(alloc),
-            |state| elects::<K>(state, *votes, *right),
+            |state| elects::<K>(state, *votes, *elected),
         )? {
             return Ok(Some(*name));
         }

@@ -7,8 +7,6 @@ use Rattle.raft_state.specs.raft_state.VoteAndLog.{vote_of}
 use Rattle.std.specs.Prelude.{Some}
 use Rattle.std.specs.declared.cmp.Ordering.TheVariants.{Greater}
 use Rattle.raft_handlers.proofs.lemmas.TermLemmas.{at_least, later_term}
-use Rattle.raft_progress.specs.tracked.TrackedState.{is_voter}
-use Rattle.raft_handlers.proofs.lemmas.TallyLemmas.{voters_of_configs}
 use Rattle.raft_handlers.proofs.lemmas.TrackedLemmas.{begins_with_default, voter_known}
 use Rattle.raft_handlers.proofs.lemmas.VoteLemmas.{first_vote}
 use Rattle.raft_handlers.proofs.candidate.Candidate.campaign.Goals as goal
@@ -31,8 +29,6 @@ returns-clause-campaigns g c =
     c.promise-promised.ensures.answer ∙ at_least order term_of made old greater in
     let counted : (tracked_view c.update-reply.new.self).membership.configs ≡ (in_effect c.args.state.now.membership_state).configs =
     search rules in
-    let begun : (tracked_view c.in-Ok-new.votes).membership.configs ≡ (in_effect c.args.state.now.membership_state).configs =
-    search rules in
     record {
       may = search rules;
       node = search rules;
@@ -50,9 +46,4 @@ returns-clause-campaigns g c =
           (λ y v known. begins_with_default g.NID.PartialEq.eq _ _ _ _ _ (tracked_view c.in-Ok-new.votes)
           c.in-Ok-new.ensures.progress y v known)
           x;
-      none_refused = λ x.
-          c.in-Ok-ids.ensures.voters x
-          ∙ ap (λ q. is_voter g.NID.PartialEq.eq q x) (c.quorum_set.ensures ∙ ap (λ p. p.quorum_set) c.progress.ensures)
-          ∙ voters_of_configs g.NID.PartialEq.eq _ _ _ (tracked_view c.in-Ok-new.votes) c.in-Ok-new.ensures.ready x
-          ∙ ap (λ cs. is_voter_of g.NID.PartialEq.eq cs x) begun;
     }

@@ -7,5 +7,5 @@ pub returns : goal.returns
 returns g c =
     let t = tracked_view c.self.inside.votes in
     let ready = c.quorums_know_granted.ensures.ready in
-    let each = vote_granted g.met.NID.Eq.laws t ready (c.granted_is_threshold.ensures t.progress ready.ordered true) c.self.invariant.0 in
+    let each = vote_granted g.met.NID.Eq.laws t ready (c.granted_is_threshold.ensures t.progress ready.ordered true) c.self.invariant in
     rw (← c.self.view_is) (rw (c.granted.ensures ∙ ap (λ p. p.granted) c.progress.ensures) each)
