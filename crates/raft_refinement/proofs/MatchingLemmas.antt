@@ -244,7 +244,8 @@ response_match {L} {C} cmp entry next (Some request) (Conflict index last) is =
 response_match {L} {C} cmp entry next None (HigherVote vote) is = cc
 response_match {L} {C} cmp entry next (Some request) (HigherVote vote) is = cc
 
-module _ {K N L C : Type 0} (eq : K → K → Bool) (logs : OrdMembers C) (old new : Leadership K N C) (from : K) (response : Response L C) where
+module _ {K N L C : Type 0} (eq : K → K → Bool) (logs : OrdMembers C) (old new : Leadership K N C) (from : K)
+    (response : Response L C) where
   -- a leader has taken a response of a member
   record IsTaken : Type 0 where
     pub entry : ProgressEntryOf C

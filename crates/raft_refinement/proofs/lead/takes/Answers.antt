@@ -38,8 +38,8 @@ returns g c =
       knows = response_counted k g.at.0 g.NID.PartialEq.eq logs (assumption (c.requires)) g.at.1 c.args.leader.now
           c.handle_response.new.self c.args.from.now c.args.response.now knows in_log acked c.handle_response.result
           c.handle_response.ensures.takes;
-      members = response_members g.NID.PartialEq.eq logs c.args.leader.now c.handle_response.new.self c.args.from.now c.args.response.now c.handle_response.result
-          c.handle_response.ensures.takes;
-      node = response_node g.NID.PartialEq.eq logs c.args.leader.now c.handle_response.new.self c.args.from.now c.args.response.now c.handle_response.result
-          c.handle_response.ensures.takes;
+      members = response_members g.NID.PartialEq.eq logs c.args.leader.now c.handle_response.new.self
+          c.args.from.now c.args.response.now c.handle_response.result c.handle_response.ensures.takes;
+      node = response_node g.NID.PartialEq.eq logs c.args.leader.now c.handle_response.new.self
+          c.args.from.now c.args.response.now c.handle_response.result c.handle_response.ensures.takes;
     }
