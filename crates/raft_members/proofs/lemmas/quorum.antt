@@ -1,5 +1,6 @@
 pub mod AtLeastLemmas
 pub mod ChunkLemmas
+pub mod InOrderLemmas
 pub mod LeastLemmas
 pub mod MajorityLemmas
 pub mod MeetingLemmas

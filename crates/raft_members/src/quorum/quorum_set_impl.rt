@@ -1,10 +1,10 @@
 //! Lists and sets of voters as quorum sets: a quorum has more than half of the voters. Shared
 //! quorum sets.
-ghost use Rattle.std.specs.Prelude.{◌≡◌, ◌*◌, ◌≤◌, ◌||◌, Bool, IfOk, count_by, length, nat_lt};
+ghost use Rattle.std.specs.Prelude.{◌≡◌, ◌*◌, ◌<◌, ◌≤◌, ◌||◌, Bool, IsTrue, IfOk, count_by, length, nat_lt};
 ghost use Rattle.std.specs.List.{IsDistinct, list_any};
 ghost use Rattle.std.specs.Set.{is_member};
 ghost use Rattle.std.specs.Fn.{AnyResult};
-ghost use Rattle.std.specs.List.Sorted.{IsStrictlySortedBy};
+ghost use Rattle.std.specs.List.Sorted.{IsSorted, IsStrictlySortedBy};
 ghost use Rattle.raft_members.specs.quorum.Majority.{is_majority};
 ghost use Rattle.raft_members.specs.quorum.MajorityLawful.{is_majority-superset};
 ghost use Rattle.raft_members.specs.quorum.QuorumSize.{QuorumsHaveAtLeast, majority_size};
@@ -16,6 +16,14 @@ use std::rc::Rc;
 
 /// How many voters of a long list are compared with an id before the results are tested.
 const CHUNK: usize = 8;
+
+/// A list of more voters than this is halved before it is searched, if it is in order.
+// Up to here, comparing an id with all voters takes less time, because they are compared eight at a
+// time, and every other halving is a mispredicted branch.
+const MANY: usize = 160;
+
+/// How many voters are left at most when a list has been halved.
+const LEFT: usize = 64;
 
 /// A quorum has more voters than half of the vector's length. A repeated voter adds to the length
 /// and counts once.
@@ -192,7 +200,17 @@ fn has_majority_of_many<ID: Copy + Ord>(voters: &[ID], ids: &[ID]) -> bool
     ensures { IsDistinct ID.eq ids.now →
         result ≡ is_majority ID.eq voters.now (is_member ID.eq ids.now) }
 {
+    if are_many_in_order(voters) {
+        return exceeds(ids, voters.len() / 2, |id| has_in_order(voters, id));
+    }
     exceeds(ids, voters.len() / 2, |id| has(voters, id))
+}
+
+/// Whether there are many voters, and no voter is below the one before it.
+fn are_many_in_order<ID: Copy + Ord>(voters: &[ID]) -> bool
+    ensures { IsTrue result → IsSorted ID.cmp voters.now }
+{
+    voters.len() > MANY && voters.is_sorted()
 }
 
 /// Whether more than `limit` of the ids are voters. A repeated id counts each time. The function
@@ -226,7 +244,7 @@ pub(super) fn exceeds<ID: Copy + Ord, F: Fn(ID) -> bool>(
 /// Whether the id is among the voters.
 // A short list is compared without chunks, because setting up chunks takes as long as its
 // comparisons.
-pub(super) fn has<ID: Copy + Ord>(voters: &[ID], id: ID) -> bool
+fn has<ID: Copy + Ord>(voters: &[ID], id: ID) -> bool
     ensures { result ≡ list_any (λ y. ID.eq y id) voters.now }
 {
     if voters.len() < CHUNK {
@@ -239,6 +257,42 @@ pub(super) fn has<ID: Copy + Ord>(voters: &[ID], id: ID) -> bool
         }
     }
     has_singly(rest, id)
+}
+
+/// Whether the id is among voters that are in order.
+pub(super) fn has_in_order<ID: Copy + Ord>(voters: &[ID], id: ID) -> bool
+    ensures { IsSorted ID.cmp voters.now → result ≡ list_any (λ y. ID.eq y id) voters.now }
+{
+    has(part_with(voters, id), id)
+}
+
+/// Returns at most `LEFT` of voters that are in order. If the id is among the voters, it is among
+/// these.
+fn part_with<ID: Copy + Ord>(voters: &[ID], id: ID) -> &[ID]
+    ensures { IsSorted ID.cmp voters.now →
+        list_any (λ y. ID.eq y id) result.now ≡ list_any (λ y. ID.eq y id) voters.now }
+{
+    let mut part = voters;
+    while part.len() > LEFT {
+        part = half_with(part, id);
+    }
+    part
+}
+
+/// Returns a half of voters that are in order. If the id is among the voters, it is in this half.
+fn half_with<ID: Copy + Ord>(voters: &[ID], id: ID) -> &[ID]
+    requires { 2 ≤ length voters.now }
+    ensures shorter { length result.now < length voters.now }
+    ensures in_order { IsSorted ID.cmp voters.now → IsSorted ID.cmp result.now }
+    ensures same { IsSorted ID.cmp voters.now →
+        list_any (λ y. ID.eq y id) result.now ≡ list_any (λ y. ID.eq y id) voters.now }
+{
+    let (front, back) = voters.split_at(voters.len() / 2);
+    if id.cmp(&back[0]).is_lt() {
+        front
+    } else {
+        back
+    }
 }
 
 /// Whether the id is among the voters, by one comparison after another.
