@@ -118,6 +118,7 @@ impl<NID: NodeId, N: Node, I: Instant, L: Drop, C: Ord + Copy + Drop> RaftStateI
     /// If `is_logged` is true of the log id, a sound state stays sound.
     ///
     /// After an error nothing has changed.
+    #[inline(always)]
     pub fn update_committed(
         &mut self,
         committed: &Option<LogIdOf<C>>,
@@ -141,14 +142,14 @@ impl<NID: NodeId, N: Node, I: Instant, L: Drop, C: Ord + Copy + Drop> RaftStateI
     {
         // This read is for the proof: by its contract the keys are in order.
         let _keys = self.log_ids.key_log_ids();
-        if log_id_below(self.committed, *committed) {
-            let before = self.committed;
-            self.membership_state.commit(committed)?;
-            self.committed = *committed;
-            Ok(Some(before))
-        } else {
-            Ok(None)
+        // Both are copied first, so that they are not read again after the commit.
+        let (before, upto) = (self.committed, *committed);
+        if !log_id_below(before, upto) {
+            return Ok(None);
         }
+        self.membership_state.commit(&upto)?;
+        self.committed = upto;
+        Ok(Some(before))
     }
 
     /// Whether the precondition of `first_conflicting_index` holds: `can_ask` is true of the log id

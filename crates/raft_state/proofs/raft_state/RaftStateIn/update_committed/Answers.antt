@@ -5,17 +5,17 @@ use Rattle.raft_state.proofs.lemmas.sound.SoundCalls.{commit_sound}
 use Rattle.raft_state.proofs.lemmas.log.CommitLemmas.{stays_valid}
 use Rattle.raft_state.proofs.raft_state.RaftStateIn.update_committed.Goals as goal
 
-pub returns-in_ok-commit-clause-valid : goal.returns-in_ok-commit-clause-valid
-returns-in_ok-commit-clause-valid g c valid in_log =
+pub returns-clause-valid : goal.returns-clause-valid
+returns-clause-valid g c valid in_log =
     stays_valid g.met.C.Ord.total c.args.committed.now c.args.self.now c.commit.new.self
-    c.in_ok-commit.ensures.ok (sym c.log_id_below.ensures ∙ c.if-log_id_below.true) valid in_log
+    c.in_ok-commit.ensures.ok (sym c.log_id_below.ensures ∙ c.if-not-log_id_below.false) valid in_log
 
-pub returns-in_ok-commit-clause-sound : goal.returns-in_ok-commit-clause-sound
-returns-in_ok-commit-clause-sound g c sound logged =
+pub returns-clause-sound : goal.returns-clause-sound
+returns-clause-sound g c sound logged =
     let s = c.args.self.now in
     let canonical = rw c.key_log_ids-keys.ensures.keys at c.key_log_ids-keys.ensures.canonical in
     let are = is_key_list g.C.Ord.cmp s.log_ids canonical in
     commit_sound g.C.Ord.cmp g.C.PartialEq.eq g.met.C.Ord.total g.met.C.Ord.matches_eq g.met.C.Eq.laws s c.args.committed.now
     c.commit.new.self are
-    c.in_ok-commit.ensures.ok (sym c.log_id_below.ensures ∙ c.if-log_id_below.true)
+    c.in_ok-commit.ensures.ok (sym c.log_id_below.ensures ∙ c.if-not-log_id_below.false)
     (sym (is_logged g.C.PartialEq.eq s c.args.committed.now) ∙ logged) sound
