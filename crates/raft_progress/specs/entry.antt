@@ -3,5 +3,6 @@ pub mod EntryTable
 pub mod EntryValid
 pub mod Send
 pub mod Request
+pub mod Probe
 pub mod Sendable
 pub mod LateResponse

@@ -13,6 +13,8 @@ ghost use Rattle.raft_base.specs.LogView.{LogView};
 ghost use Rattle.raft_progress.specs.declared.entry.ProgressEntryOf.{ProgressEntryOf};
 ghost use Rattle.raft_progress.specs.declared.inflight.InflightOf.TheVariants.{None as Idle};
 
+mod probe;
+
 use crate::inflight::{InflightError, InflightOf};
 use crate::progress::{ProgressPart, is_below};
 pub use crate::search::{SearchEvent, search_run};

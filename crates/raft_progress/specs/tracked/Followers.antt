@@ -6,6 +6,7 @@ use Rattle.raft_base.specs.LogId.{log_id_cmp}
 use Rattle.raft_base.specs.LogView.{LogView}
 use Rattle.raft_base.specs.declared.log_id.LogIdOf.{LogIdOf}
 use Rattle.raft_progress.specs.entry.EntryTable.{entry_after_ack, entry_after_conflict}
+use Rattle.raft_progress.specs.entry.Probe.{after_send}
 use Rattle.raft_progress.specs.entry.Request.{FollowsRequest, after_request}
 use Rattle.raft_progress.specs.progress.Kept.{with_value}
 use Rattle.raft_progress.specs.progress.ProgressView.{state}
@@ -40,15 +41,28 @@ module _ {K N V P : Type 0} (eq : K → K → Bool) where
 abbrev pub Followers : Type 0 → Type 0 → Type 0 → Type 0
 Followers K N C = TrackedView K N (ProgressEntryOf C) (Option (LogIdOf C))
 
+-- what a table makes of the value of a member is put in flight, if the table has a request; no other
+-- value changes
+abbrev pub IsRequest : {K N C : Type 0} → (K → K → Bool)
+    → (ProgressEntryOf C → Option (ProgressEntryOf C)) → Followers K N C → K → Option (InflightOf C)
+    → Followers K N C → Type 0
+IsRequest {K} {N} {C} eq table old id (Some sending) new =
+    (entry next : ProgressEntryOf C) × (member_value eq old id ≡ Some entry)
+    × FollowsRequest (table entry) entry sending next × (new ≡ with_member_value eq old id next)
+IsRequest eq table old id None new = (member_value eq old id ≡ None) × (new ≡ old)
+
 module _ {K N C : Type 0} (eq : K → K → Bool) (cmp : C → C → Ordering) where
   -- the next request to a member is put in flight, if there is one; no other value changes
   abbrev pub IsNextSend : Followers K N C → K → LogView C → ℕ → Option (InflightOf C) → Followers K N C
       → Type 0
-  IsNextSend old id log max_entries (Some sending) new =
-      (entry next : ProgressEntryOf C) × (member_value eq old id ≡ Some entry)
-      × FollowsRequest (after_request cmp entry log max_entries) entry sending next
-      × (new ≡ with_member_value eq old id next)
-  IsNextSend old id log max_entries None new = (member_value eq old id ≡ None) × (new ≡ old)
+  IsNextSend old id log max_entries result new =
+      IsRequest eq (λ entry. after_request cmp entry log max_entries) old id result new
+
+  -- the next request to a member is put in flight, a probe if one is due; no other value changes
+  abbrev pub IsNextRequest : Followers K N C → K → LogView C → ℕ → Option (InflightOf C)
+      → Followers K N C → Type 0
+  IsNextRequest old id log max_entries result new =
+      IsRequest eq (λ entry. after_send cmp entry log max_entries) old id result new
 
   -- a member has all logs up to a log id: its match is updated, and granted recomputed
   abbrev pub IsAcknowledged : Followers K N C → K → ℕ → Option (LogIdOf C)

@@ -1,5 +1,5 @@
 //! What a leader sends to a member, and what it learns from the member's responses.
-ghost use Rattle.raft_progress.specs.tracked.Followers.{IsAcknowledged, IsConflict, IsNextSend};
+ghost use Rattle.raft_progress.specs.tracked.Followers.{IsAcknowledged, IsConflict, IsNextRequest, IsNextSend};
 ghost use Rattle.raft_progress.specs.tracked.Tracked.{tracked_view};
 
 use super::Tracked;
@@ -32,6 +32,30 @@ impl<NID: NodeId, N: Node, C: Ord + Copy> Tracked<NID, N, ProgressEntryOf<C>, Op
             return None;
         };
         Some(entry.send_next(log, max_entries))
+    }
+
+    /// Puts in flight what is to be sent to a member next, a probe if one is due, and returns it.
+    /// The result is `None` for an unknown id.
+    ///
+    /// If 16 or more indexes are between what the member matches and the searching end, the last
+    /// log id that both logs have is searched for, and no request has more than one entry. Of eight
+    /// requests the first two are probes: they have no entries, and ask whether the member has the
+    /// log id before the searching end. Otherwise what is sent, and what `InflightOf::None` means,
+    /// is as for `next_send`.
+    #[inline(always)]
+    pub fn next_request<L: LogStateReader<C>>(
+        &mut self,
+        id: &NID,
+        log: &L,
+        max_entries: u64,
+    ) -> Option<InflightOf<C>>
+        ensures { IsNextRequest NID.eq C.cmp (tracked_view self.old) id.now (L.log_view log.now)
+            max_entries result (tracked_view self.new) }
+    {
+        let Some(entry) = self.progress.get_mut(id) else {
+            return None;
+        };
+        Some(entry.probe_or_send(log, max_entries))
     }
 
     /// Takes the response that a member has all logs up to a log id, as

@@ -1,11 +1,14 @@
 -- What a call that follows a table says of the table, by its result, and what responses and requests
 -- leave of a match.
 use Rattle.std.specs.Prelude.{◌≡◌, ℕ, Bool, true, false, Option, Some, None, Result, Ok, Err, nat_lt, refl, if◌then◌else◌}
+use Rattle.std.specs.Option.{option_map, option_or}
 use Rattle.std.specs.declared.cmp.Ordering.{Ordering}
 use Rattle.std.proofs.Common.{ap, sym, subst}
 use Rattle.raft_base.specs.LogId.{next_index}
-use Rattle.raft_base.specs.LogView.{LogView}
+use Rattle.raft_base.specs.LogView.{LogView, prev_id}
+use Rattle.raft_base.specs.declared.log_id.LogIdOf.{LogIdOf}
 use Rattle.raft_progress.specs.entry.EntryTable.{entry_after_conflict, with_search_end}
+use Rattle.raft_progress.specs.entry.Probe.{after_probe, after_send, is_probe_due, limit_of, with_probe}
 use Rattle.raft_progress.specs.entry.Request.{FollowsRequest, after_request, sent}
 use Rattle.raft_progress.specs.entry.Send.{can_send, idle_send_table, send_table}
 use Rattle.raft_progress.specs.inflight.Inflight.{is_idle}
@@ -78,6 +81,32 @@ module _ {C : Type 0} (cmp : C → C → Ordering) where
   request_keeps entry new log max_entries h =
       if_sent (λ (n : ProgressEntryOf C). n.matching ≡ entry.matching) (can_send entry log) (send_table cmp entry log max_entries) new
       (λ m k. send_keeps entry m log max_entries k) h
+
+-- a probe leaves the match
+probe_matches : {C : Type 0} (entry next : ProgressEntryOf C) (due : Bool) (prev : Option (LogIdOf C))
+    → (let made : Option (ProgressEntryOf C) = (if due then option_map (with_probe entry) prev else None) in made) ≡ Some next
+    → next.matching ≡ entry.matching
+probe_matches entry next true (Some id) h = let same : with_probe entry id ≡ next = cc in ap (λ e. e.matching) (sym same)
+probe_matches entry next true None h = cc
+probe_matches entry next false prev h = cc
+
+pub probe_keeps : {C : Type 0} (entry next : ProgressEntryOf C) (log : LogView C) → after_probe entry log ≡ Some next
+    → next.matching ≡ entry.matching
+probe_keeps entry next log h = probe_matches entry next (is_probe_due entry log) (prev_id log.id_at entry.searching_end) h
+
+first_of : {C : Type 0} (P : ProgressEntryOf C → Type 0) (probe request : Option (ProgressEntryOf C)) (n : ProgressEntryOf C)
+    → ((m : ProgressEntryOf C) → probe ≡ Some m → P m) → ((m : ProgressEntryOf C) → request ≡ Some m → P m)
+    → option_or probe request ≡ Some n → P n
+first_of P (Some m) request n p q h = let same : m ≡ n = cc in subst P same (p m refl)
+first_of P None request n p q h = q n h
+
+-- and so does a probe or the next request
+pub next_keeps : {C : Type 0} (cmp : C → C → Ordering) (entry new : ProgressEntryOf C) (log : LogView C) (max_entries : ℕ)
+    → after_send cmp entry log max_entries ≡ Some new → new.matching ≡ entry.matching
+next_keeps cmp entry new log max_entries h =
+    first_of (λ (n : ProgressEntryOf _). n.matching ≡ entry.matching) (after_probe entry log)
+    (after_request cmp entry log (limit_of entry max_entries)) new
+    (λ m k. probe_keeps entry m log k) (λ m k. request_keeps cmp entry m log (limit_of entry max_entries) k) h
 
 -- a call that makes the next request leaves what each request leaves
 pub requested : {C : Type 0} (P : ProgressEntryOf C → Type 0) (request : Option (ProgressEntryOf C)) (old : ProgressEntryOf C)
