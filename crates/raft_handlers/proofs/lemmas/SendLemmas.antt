@@ -1,16 +1,15 @@
 -- What a request to a member, and a response of it, make of what a leader knows of it.
-use Rattle.std.specs.Prelude.{◌≡◌, ℕ, Bool, true, false, if◌then◌else◌, Option, Some, None, Result, Ok, Err, IsOk, OnErr, refl, option_map}
+use Rattle.std.specs.Prelude.{◌≡◌, ℕ, Bool, true, false, if◌then◌else◌, Option, Some, None, Result, Ok, Err, IsOk, OnErr, refl}
 use Rattle.std.specs.Cmp.{IsEquivalence, IsTotalOrder}
 use Rattle.std.specs.Map.{update}
 use Rattle.std.specs.Result.{result_unwrap_or}
 use Rattle.std.specs.declared.cmp.Ordering.{Ordering}
 use Rattle.std.proofs.Common.{ap, sym, subst, ◌∙◌}
 use Rattle.raft_base.specs.LogId.{id_le}
-use Rattle.raft_base.specs.LogView.{LogView, prev_id}
 use Rattle.raft_base.specs.declared.log_id.LogIdOf.{LogIdOf}
-use Rattle.raft_progress.specs.entry.Request.{FollowsRequest, after_request, sent}
+use Rattle.raft_progress.specs.entry.Request.{FollowsRequest, sent}
 use Rattle.raft_progress.specs.entry.EntryTable.{entry_after_conflict}
-use Rattle.raft_progress.specs.tracked.Followers.{Followers, IsAcknowledged, IsConflict, IsNextSend, IsResponse}
+use Rattle.raft_progress.specs.tracked.Followers.{Followers, IsAcknowledged, IsConflict, IsRequest, IsResponse}
 use Rattle.raft_progress.specs.tracked.Followers.{member_value, with_member_value}
 use Rattle.raft_progress.specs.declared.entry.ProgressEntryOf.{ProgressEntryOf}
 use Rattle.raft_progress.specs.declared.inflight.InflightError.{InflightError}
@@ -21,14 +20,9 @@ use Rattle.raft_handlers.specs.Leadership.{Leadership, WritesEntry, WritesMember
 use Rattle.raft_handlers.specs.Responses.{
   after_conflict,
   after_outcome,
-  after_probe,
-  after_send,
   as_refused,
   end_after,
-  is_probe_due,
-  limit_of,
   with_hint,
-  with_probe,
 }
 use Rattle.raft_handlers.specs.declared.error.HandlerError.{HandlerError}
 use Rattle.raft_handlers.specs.declared.error.HandlerError.TheVariants.{HigherVote}
@@ -235,30 +229,6 @@ module _ {K N C : Type 0} (eq : K → K → Bool) {cmp : C → C → Ordering} (
   conflict_default request index (Some (Err e)) s = λ i. (s.3 i).progress.default_part
   conflict_default request index None s = λ i. (s.1 i).progress.default_part
 
--- ---- probes
-
--- a probe leaves what matches
-probe_matches : {C : Type 0} (entry next : ProgressEntryOf C) (due : Bool) (prev : Option (LogIdOf C))
-    → (let made : Option (ProgressEntryOf C) = (if due then option_map (with_probe entry) prev else None) in made) ≡ Some next
-    → next.matching ≡ entry.matching
-probe_matches entry next true (Some id) h = let same : with_probe entry id ≡ next = cc in ap (λ e. e.matching) (sym same)
-probe_matches entry next true None h = cc
-probe_matches entry next false prev h = cc
-
-pub probe_keeps : {C : Type 0} (entry next : ProgressEntryOf C) (log : LogView C) → after_probe entry log ≡ Some next
-    → next.matching ≡ entry.matching
-probe_keeps entry next log h = probe_matches entry next (is_probe_due entry log) (prev_id log.id_at entry.searching_end) h
-
--- what is sent is a probe, or else what the layer sends
-pub sends_probe : {C : Type 0} (cmp : C → C → Ordering) (entry next : ProgressEntryOf C) (log : LogView C) (max_entries : ℕ)
-    → after_probe entry log ≡ Some next → after_send cmp entry log max_entries ≡ Some next
-sends_probe cmp entry next log max_entries h = rw h refl
-
-pub sends_rest : {C : Type 0} (cmp : C → C → Ordering) (entry : ProgressEntryOf C) (log : LogView C) (max_entries : ℕ)
-    → after_probe entry log ≡ None
-    → after_send cmp entry log max_entries ≡ after_request cmp entry log (limit_of entry max_entries)
-sends_rest cmp entry log max_entries h = rw h refl
-
 -- ---- requests, by their results
 
 -- what is put in flight is what an allowed send makes
@@ -269,50 +239,48 @@ request_sent true (Ok e) next h = let same : e ≡ next = cc in (refl, ap Ok sam
 request_sent true (Err e) next h = cc
 request_sent false table next h = cc
 
-module _ {K N C : Type 0} (eq : K → K → Bool) (cmp : C → C → Ordering) (old new : Followers K N C) (id : K) (log : LogView C)
-    (max_entries : ℕ) where
-  follows : (x : InflightOf C) (s : IsNextSend eq cmp old id log max_entries (Some x) new) (entry : ProgressEntryOf C)
-      (request : Option (ProgressEntryOf C)) → member_value eq old id ≡ Some entry → after_request cmp entry log max_entries ≡ request
+module _ {K N C : Type 0} (eq : K → K → Bool) (table : ProgressEntryOf C → Option (ProgressEntryOf C)) (old new : Followers K N C)
+    (id : K) where
+  follows : (x : InflightOf C) (s : IsRequest eq table old id (Some x) new) (entry : ProgressEntryOf C)
+      (request : Option (ProgressEntryOf C)) → member_value eq old id ≡ Some entry → table entry ≡ request
       → FollowsRequest request s.0 x s.1
   follows x s entry request known is =
       let e : Some s.0 ≡ Some entry = sym s.2 ∙ known in
       let same : s.0 ≡ entry = cc in
-      subst (λ (r : Option (ProgressEntryOf C)). FollowsRequest r s.0 x s.1) (ap (λ n. after_request cmp n log max_entries) same ∙ is) s.3
+      subst (λ (r : Option (ProgressEntryOf C)). FollowsRequest r s.0 x s.1) (ap table same ∙ is) s.3
 
-  pub next_unknown : (r : Option (InflightOf C)) → IsNextSend eq cmp old id log max_entries r new → member_value eq old id ≡ None
-      → r ≡ None
+  pub next_unknown : (r : Option (InflightOf C)) → IsRequest eq table old id r new → member_value eq old id ≡ None → r ≡ None
   next_unknown (Some x) s none = let e : Some s.0 ≡ None = sym s.2 ∙ none in cc
   next_unknown None s none = refl
 
-  pub next_sent : (r : Option (InflightOf C)) → IsNextSend eq cmp old id log max_entries r new → (entry next : ProgressEntryOf C)
-      → member_value eq old id ≡ Some entry → after_request cmp entry log max_entries ≡ Some next → r ≡ Some next.inflight
+  pub next_sent : (r : Option (InflightOf C)) → IsRequest eq table old id r new → (entry next : ProgressEntryOf C)
+      → member_value eq old id ≡ Some entry → table entry ≡ Some next → r ≡ Some next.inflight
   next_sent (Some x) s entry next known is = ap Some (follows x s entry (Some next) known is).1
   next_sent None s entry next known is = let e : Some entry ≡ None = sym known ∙ s.0 in cc
 
-  pub next_written : (r : Option (InflightOf C)) → IsNextSend eq cmp old id log max_entries r new → (entry next : ProgressEntryOf C)
-      → member_value eq old id ≡ Some entry → after_request cmp entry log max_entries ≡ Some next
-      → new ≡ with_member_value eq old id next
+  pub next_written : (r : Option (InflightOf C)) → IsRequest eq table old id r new → (entry next : ProgressEntryOf C)
+      → member_value eq old id ≡ Some entry → table entry ≡ Some next → new ≡ with_member_value eq old id next
   next_written (Some x) s entry next known is =
       s.4 ∙ ap (λ n. with_member_value eq old id n) (follows x s entry (Some next) known is).0
   next_written None s entry next known is = let e : Some entry ≡ None = sym known ∙ s.0 in cc
 
-  pub next_idle : (r : Option (InflightOf C)) → IsNextSend eq cmp old id log max_entries r new → (entry : ProgressEntryOf C)
-      → member_value eq old id ≡ Some entry → after_request cmp entry log max_entries ≡ None → r ≡ Some Idle
+  pub next_idle : (r : Option (InflightOf C)) → IsRequest eq table old id r new → (entry : ProgressEntryOf C)
+      → member_value eq old id ≡ Some entry → table entry ≡ None → r ≡ Some Idle
   next_idle (Some x) s entry known is = ap Some (follows x s entry None known is).1
   next_idle None s entry known is = let e : Some entry ≡ None = sym known ∙ s.0 in cc
 
-  pub next_kept : (r : Option (InflightOf C)) → IsNextSend eq cmp old id log max_entries r new → (entry : ProgressEntryOf C)
-      → member_value eq old id ≡ Some entry → after_request cmp entry log max_entries ≡ None → new ≡ old
+  pub next_kept : (r : Option (InflightOf C)) → IsRequest eq table old id r new → (entry : ProgressEntryOf C)
+      → member_value eq old id ≡ Some entry → table entry ≡ None → new ≡ old
   next_kept (Some x) s entry known is =
       s.4 ∙ ap (λ n. with_member_value eq old id n) (follows x s entry None known is).0 ∙ same_member eq old id s.0 s.2
   next_kept None s entry known is = let e : Some entry ≡ None = sym known ∙ s.0 in cc
 
-  pub next_none : (r : Option (InflightOf C)) → IsNextSend eq cmp old id log max_entries r new → r ≡ None → new ≡ old
+  pub next_none : (r : Option (InflightOf C)) → IsRequest eq table old id r new → r ≡ None → new ≡ old
   next_none (Some x) s none = cc
   next_none None s none = s.1
 
   -- a request leaves the default
-  pub next_default : (r : Option (InflightOf C)) → IsNextSend eq cmp old id log max_entries r new
+  pub next_default : (r : Option (InflightOf C)) → IsRequest eq table old id r new
       → new.progress.default_part ≡ old.progress.default_part
   next_default (Some x) s = λ i. (s.4 i).progress.default_part
   next_default None s = λ i. (s.1 i).progress.default_part

@@ -4,7 +4,7 @@ ghost use Rattle.std.specs.Option.{option_map};
 ghost use Rattle.raft_base.specs.LogId.{id_le};
 ghost use Rattle.raft_handlers.specs.Compared.{compared};
 ghost use Rattle.raft_handlers.specs.Leadership.{IsFlushRefusal, WritesEntry, WritesMember, entry_of, flushed_entry, granted_by, is_leading};
-ghost use Rattle.raft_handlers.specs.Responses.{SendsNext, TakesResponse, after_conflict, after_probe, after_response, after_send, as_refused, end_after, is_probe_due, is_searched, limit_of, number_after};
+ghost use Rattle.raft_handlers.specs.Responses.{SendsNext, TakesResponse, after_conflict, after_response, as_refused, end_after, number_after};
 ghost use Rattle.raft_progress.specs.tracked.Followers.{IsResponse, member_value};
 ghost use Rattle.raft_progress.specs.tracked.Tracked.{tracked_view};
 ghost use Rattle.raft_progress.specs.declared.entry.ProgressEntryOf.{ProgressEntryOf};
@@ -16,9 +16,7 @@ use super::Leader;
 use crate::error::HandlerError;
 use crate::message::{Outcome, Response};
 use crate::state::State;
-use raft_base::{
-    Instant, LeaderIdentity, LogIdOf, LogIdOptionExt, LogIdRangeOf, LogStateReader, Node, NodeId,
-};
+use raft_base::{Instant, LeaderIdentity, LogIdOf, LogIdOptionExt, LogStateReader, Node, NodeId};
 use raft_progress::{InflightError, InflightOf, Progress, ProgressEntryOf, Tracked};
 use raft_state::RaftStateIn;
 use raft_state::laws::sends_from_log;
@@ -47,7 +45,7 @@ impl<NID: NodeId, N: Node, C: Ord + Copy + Drop> Leader<NID, N, C> {
     {
         // Called for the proof alone: what is sent is from the log.
         sends_from_log::<C>();
-        let sending = send_next(&mut self.followers, to, state, max_entries);
+        let sending = self.followers.next_request(to, state, max_entries);
         self.last_request = number_after(self.last_request, &sending);
         sending
     }
@@ -137,104 +135,6 @@ impl<NID: NodeId, N: Node, C: Ord + Copy + Default + Drop + 'static> Leader<NID,
         let _reply = self.followers.update(&self.id, entry);
         Ok(())
     }
-}
-
-/// The least number of indexes between what a member matches and the searching end for which the
-/// last log id that both logs have is searched for. If there are fewer, they are sent.
-const SEARCHED: u64 = 16;
-
-/// Whether the last log id that both logs have is searched for: there are many indexes between what
-/// a member matches and the searching end.
-fn is_searched<C: Ord + Copy>(entry: &ProgressEntryOf<C>) -> bool
-    ensures { result ≡ is_searched entry.now }
-{
-    entry.can_start() && entry.searching_end - entry.matching.next_index() >= SEARCHED
-}
-
-/// Returns how many entries a request has at most: one in a search, which is enough to halve what
-/// is searched.
-fn limit_of<C: Ord + Copy>(entry: &ProgressEntryOf<C>, max_entries: u64) -> u64
-    ensures { result ≡ limit_of entry.now max_entries }
-{
-    if is_searched(entry) {
-        max_entries.min(1)
-    } else {
-        max_entries
-    }
-}
-
-/// Whether the next request of a search is a probe: of eight numbers, the first two are those of
-/// probes.
-fn is_probe_due<C: Ord + Copy, L: LogStateReader<C>>(entry: &ProgressEntryOf<C>, log: &L) -> bool
-    ensures { result ≡ is_probe_due entry.now (L.log_view log.now) }
-{
-    entry.inflight.is_none()
-        && is_searched(entry)
-        && entry.curr_inflight_id % 8 < 2
-        && entry.can_send(log)
-}
-
-/// Returns what is known of a member with a probe in flight, if one is due and the log has the log
-/// id that the probe asks for: the one before the searching end.
-fn probe_of<C: Ord + Copy, L: LogStateReader<C>>(
-    entry: &ProgressEntryOf<C>,
-    log: &L,
-) -> Option<ProgressEntryOf<C>>
-    ensures { result ≡ after_probe entry.now (L.log_view log.now) }
-{
-    if !is_probe_due(entry, log) {
-        return None;
-    }
-    let id = entry.curr_inflight_id + 1;
-    match log.prev_log_id(entry.searching_end) {
-        Some(prev) => {
-            let log_id_range = LogIdRangeOf::new(Some(prev), Some(prev));
-            let probe = InflightOf::Logs { id, log_id_range };
-            Some(entry.with_curr_inflight_id(id).with_inflight(probe))
-        }
-        None => None,
-    }
-}
-
-/// Puts in flight what is to be sent to a member next, and returns it. The result is `None` for an
-/// unknown id.
-fn send_next<NID: NodeId, N: Node, C: Ord + Copy, L: LogStateReader<C>>(
-    followers: &mut Tracked<NID, N, ProgressEntryOf<C>, Option<LogIdOf<C>>>,
-    to: &NID,
-    log: &L,
-    max_entries: u64,
-) -> Option<InflightOf<C>>
-    ensures unknown { member_value NID.eq (tracked_view followers.old) to.now ≡ None →
-        result ≡ None }
-    ensures sent { (entry next : ProgressEntryOf C) →
-        member_value NID.eq (tracked_view followers.old) to.now ≡ Some entry →
-        after_send C.cmp entry (L.log_view log.now) max_entries ≡ Some next →
-        result ≡ Some next.inflight }
-    ensures in_flight { (entry next : ProgressEntryOf C) →
-        member_value NID.eq (tracked_view followers.old) to.now ≡ Some entry →
-        after_send C.cmp entry (L.log_view log.now) max_entries ≡ Some next →
-        WritesMember NID.eq (tracked_view followers.old) to.now next
-        (tracked_view followers.new) }
-    ensures heartbeat { (entry : ProgressEntryOf C) →
-        member_value NID.eq (tracked_view followers.old) to.now ≡ Some entry →
-        after_send C.cmp entry (L.log_view log.now) max_entries ≡ None → result ≡ Some Idle }
-    ensures unchanged { result ≡ None → tracked_view followers.new ≡ tracked_view followers.old }
-    ensures unchanged_by_heartbeat { (entry : ProgressEntryOf C) →
-        member_value NID.eq (tracked_view followers.old) to.now ≡ Some entry →
-        after_send C.cmp entry (L.log_view log.now) max_entries ≡ None →
-        tracked_view followers.new ≡ tracked_view followers.old }
-    ensures default { (tracked_view followers.new).progress.default_part
-        ≡ (tracked_view followers.old).progress.default_part }
-{
-    let Some(entry) = followers.progress().try_get(to) else {
-        return None;
-    };
-    let limit = limit_of(entry, max_entries);
-    if let Some(probing) = probe_of(entry, log) {
-        let _reply = followers.update(to, probing);
-        return Some(probing.inflight);
-    }
-    followers.next_send(to, log, limit)
 }
 
 /// Returns the greatest number of a request, once this is sent.
