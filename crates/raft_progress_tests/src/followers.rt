@@ -18,10 +18,11 @@ use std::test::Fail;
 /// The members of a leader, and what it knows of each.
 type Followers<C> = Tracked<u64, EmptyNode, ProgressEntryOf<C>, Option<LogIdOf<C>>>;
 
-/// A call for a member: a send of at most four logs, an ack of a request up to an index, a conflict
-/// at an index.
+/// A call for a member: a send of at most four logs, a send of a probe or of at most four logs, an
+/// ack of a request up to an index, a conflict at an index.
 enum Call {
     Send(u64),
+    Request(u64),
     Ack(u64, u64, u64),
     Conflict(u64, Option<u64>, u64),
 }
@@ -36,9 +37,11 @@ enum Answer {
     Unknown,
 }
 
-/// Calls for the voters 1 to 3 in a log from 0 to 9, the answer to each, and what is granted after
-/// it.
-const ROWS: [(Call, Answer, Option<u64>); 17] = [
+/// A call, its answer, and what is granted after it.
+type Row = (Call, Answer, Option<u64>);
+
+/// Calls for the voters 1 to 3 in a log from 0 to 9.
+const ROWS: [Row; 19] = [
     (Call::Send(1), Answer::Sent(1, None, Some(3)), None),
     (Call::Send(1), Answer::Nothing, None),
     (Call::Send(9), Answer::Unknown, None),
@@ -56,6 +59,19 @@ const ROWS: [(Call, Answer, Option<u64>); 17] = [
     (Call::Send(3), Answer::Sent(1, None, Some(3)), Some(3)),
     (Call::Send(1), Answer::Sent(2, Some(3), Some(7)), Some(3)),
     (Call::Ack(1, 2, 7), Answer::Taken, Some(3)),
+    (Call::Request(9), Answer::Unknown, Some(3)),
+    (Call::Request(2), Answer::Sent(2, Some(3), Some(7)), Some(3)),
+];
+
+/// Calls for the voter 1 in a log from 0 to 39. The first two requests are probes before the
+/// searching end, and the third one halves what is searched.
+const SEARCH: [Row; 6] = [
+    (Call::Request(1), Answer::Sent(1, Some(39), Some(39)), None),
+    (Call::Request(1), Answer::Nothing, None),
+    (Call::Conflict(1, Some(1), 39), Answer::Taken, None),
+    (Call::Request(1), Answer::Sent(2, Some(38), Some(38)), None),
+    (Call::Conflict(1, Some(2), 38), Answer::Taken, None),
+    (Call::Request(1), Answer::Sent(3, Some(15), Some(16)), None),
 ];
 
 /// The answer to a send.
@@ -86,6 +102,7 @@ fn make<C: Numbered + Drop>(
 ) -> Answer {
     match call {
         Call::Send(to) => sent(followers.next_send(to, log, 4)),
+        Call::Request(to) => sent(followers.next_request(to, log, 4)),
         Call::Ack(from, request, index) => {
             taken(followers.acknowledge(from, *request, id(1, *index)))
         }
@@ -97,30 +114,41 @@ fn make<C: Numbered + Drop>(
 
 /// Whether each call has its answer, and grants what it is to grant, and each ack that is taken
 /// counts as an update.
-fn are_answered<C: Numbered + Drop>(followers: &mut Followers<C>, log: &PlainLog<C>) -> bool {
-    for (call, want, granted) in &ROWS {
+fn are_answered<C: Numbered + Drop>(
+    followers: &mut Followers<C>,
+    log: &PlainLog<C>,
+    rows: &[Row],
+    updates: u64,
+) -> bool {
+    for (call, want, granted) in rows {
         let is_right = make(followers, log, call) == *want;
         if !is_right || followers.progress().granted().index() != *granted {
             return false;
         }
     }
-    followers.progress().stat().update_count == 4
+    followers.progress().stat().update_count == updates
 }
 
-/// Voters 1 to 3, of which a leader knows nothing.
-fn followers<C: Numbered + Drop>(alloc: Global) -> Result<Followers<C>, AllocError> {
-    Tracked::new(members(alloc, "1,2,3")?, ProgressEntryOf::empty(10))
+/// Voters 1 to 3, of which a leader knows nothing but that no log matches from an index on.
+fn followers<C: Numbered + Drop>(alloc: Global, end: u64) -> Result<Followers<C>, AllocError> {
+    Tracked::new(members(alloc, "1,2,3")?, ProgressEntryOf::empty(end))
 }
 
-/// Whether a leader's calls have their answers, without an allocation.
-fn are_followed<C: Numbered + Drop>(rt: &impl Print, alloc: Global) -> io::Result<bool> {
-    let begun = both(followers::<C>(alloc), log_below(alloc, 10, None));
+/// Whether a leader's calls in a log have their answers, without an allocation.
+fn are_followed<C: Numbered + Drop>(
+    rt: &impl Print,
+    alloc: Global,
+    end: u64,
+    rows: &[Row],
+    updates: u64,
+) -> io::Result<bool> {
+    let begun = both(followers::<C>(alloc, end), log_below(alloc, end, None));
     is_free_on(
         rt,
         alloc,
         "requests and responses of Tracked",
         begun,
-        |begun| { are_answered(&mut begun.0, &begun.1) },
+        |begun| { are_answered(&mut begun.0, &begun.1, rows, updates) },
     )
 }
 
@@ -130,12 +158,28 @@ fn a_leader_sends_and_takes_responses(rt: HostRuntime) -> Result<(), Fail> {
     assert_call(
         &rt,
         "default leader ids",
-        are_followed::<LeaderId<u64>>(&rt, alloc),
+        are_followed::<LeaderId<u64>>(&rt, alloc, 10, &ROWS, 4),
     );
     assert_call(
         &rt,
         "standard leader ids",
-        are_followed::<CommittedLeaderId>(&rt, alloc),
+        are_followed::<CommittedLeaderId>(&rt, alloc, 10, &ROWS, 4),
+    );
+    Ok(())
+}
+
+#[test]
+fn a_leader_searches(rt: HostRuntime) -> Result<(), Fail> {
+    let alloc = rt.alloc();
+    assert_call(
+        &rt,
+        "default leader ids",
+        are_followed::<LeaderId<u64>>(&rt, alloc, 40, &SEARCH, 0),
+    );
+    assert_call(
+        &rt,
+        "standard leader ids",
+        are_followed::<CommittedLeaderId>(&rt, alloc, 40, &SEARCH, 0),
     );
     Ok(())
 }
