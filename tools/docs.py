@@ -17,6 +17,8 @@ The check refuses
 - a name in the tables of that page without a file, and a definition's file that neither a table nor
   a name says;
 - counts of the definitions of the main theorem that are not those of its page;
+- the table of the steps of a run on the page for callers, if it lacks a step or names another record
+  of a contract than the step has;
 - a number that COUNTED counts in the sources, if a document has another one;
 - rows that a document shows of a program's output, and what it says that a program prints, if the
   file `stdout` of the program does not have them;
@@ -505,6 +507,47 @@ is a type of the sources or a word of the
 [toolchain's library](../DEFINITIONS.md#words-of-the-toolchains-library). `tools/docs.py` writes this
 page, and the gate refuses the page if it is stale.
 """
+# The theorem of runs: its crate, the words that the page begins with, and the step of a run.
+RUNS, RUN_CLAUSE, STEPS = "raft_refinement", "RunsAreSafe", "DoesOne"
+RUN = """# A run is safe: {count} definitions, {lines} lines
+
+After reading this page you can say what is proved of servers that call the handlers, what an engine
+has to do for it, and what is outside. `laws::runs_are_safe` of `{crate}` says:
+
+> {sentence}
+
+So two servers never apply entries with different log ids at one index. A *run* is what a cluster can
+do. It begins with servers that have not voted, and whose logs have at most the entry at index 0. Then
+one server after another takes a *step*: a call of a handler, a send, a restart, or a purge of its log.
+A call may take a message from the network, and a step may put one there. The network keeps each
+message, so a server may receive it at any later time, more than once, or never.
+
+A step says how the server's state before it and its state after it differ. For a call that is what the
+contract of the handler promises, and the handler is proved to keep its contract. What a step requires
+besides is the part of the engine, which the [next section](#what-an-engine-does) says in words.
+
+`tools/docs.py` writes this page from the [definitions](#the-definitions), their comments, and
+[CALLING.md](../../crates/{crate}/CALLING.md). The gate refuses the page if it is stale.
+"""
+RUN_TABLE = """
+## The steps of a run
+
+A call that is refused, or that runs out of memory and changes nothing, is no step.
+
+| step | what the server does | promise of the contract | lines |
+|---|---|---|---|
+"""
+RUN_DEFINITIONS = """
+## The definitions
+
+These are the definitions of a run, verbatim and in reading order: the claim, what a cluster, a world
+and a message are, the first world, and the steps. The heading of the page counts them, and their lines
+without comments. A definition of another crate has a link to its file, and [the index](words.md) says
+what it means.
+
+A definition inside a `module` takes the parameters of the module too.
+[DEFINITIONS.md](../DEFINITIONS.md#how-a-clause-reads) explains how a definition is read.
+"""
 WORDS = """# The words of contracts
 
 On this page you can look up a word of a contract that is defined in this repository: what it means,
@@ -549,6 +592,35 @@ def imported_words(text):
         for name in filter(None, (name.strip() for name in names.split(","))):
             there, _, here = name.partition(" as ")
             yield here or there, (place, there)
+
+
+RUNNING = CRATES / RUNS / "specs" / "Running.antt"
+GUIDE_OF_RUNS = CRATES / RUNS / "CALLING.md"
+
+
+def linked(one):
+    """Returns the name of a definition, linked to its file, for a page of the reference."""
+    return f"[`{one.name}`](../../{one.path.relative_to(ROOT)})"
+
+
+def comment_of(one):
+    """Returns the words of a definition's comment."""
+    return " ".join(line.strip()[3:] for line in one.comment)
+
+
+def section(path, heading):
+    """Returns a section of a document, for a page of the reference: its links lead to where they led."""
+    text = path.read_text()
+    found = re.search(rf"^## {heading}\n.*?(?=^## |\Z)", text, re.M | re.S)[0]
+
+    def moved(link):
+        target, mark, place = link[1].partition("#")
+        if not target or "://" in target:
+            return link[0]
+        there = (path.parent / target).resolve().relative_to(ROOT)
+        return f"](../../{there}{mark}{place})"
+
+    return re.sub(r"\]\(([^)\s]+)\)", moved, found).rstrip().splitlines()
 
 
 class Definitions:
@@ -597,20 +669,26 @@ class Definitions:
         """Returns the other definitions that a definition uses."""
         return [used for used in self.used_in("\n".join(one.code()), self.imports[one.path], one.path) if used != one]
 
-    def reading_order(self, first, seen):
-        """Returns a definition and those below it, each before those that it uses, without those in `seen`."""
-        if first in seen:
+    def reading_order(self, first, seen, folder=CRATES):
+        """Returns a definition and those below it, each before those that it uses, without those in `seen`.
+
+        Definitions outside a folder are left out.
+        """
+        if first in seen or folder not in first.path.parents:
             return []
         seen.add(first)
-        return [first, *(one for used in self.used_by(first) for one in self.reading_order(used, seen))]
+        return [first, *(one for used in self.used_by(first) for one in self.reading_order(used, seen, folder))]
 
-    def shown(self, one):
-        """Returns what the page of the theorem says about a definition."""
+    def shown(self, one, folder=CRATES):
+        """Returns what a page says about a definition. Those outside a folder are linked to their files."""
         path = one.path.relative_to(ROOT)
-        used = ", ".join(f"[`{other.name}`](#{other.anchor()})" for other in self.used_by(one))
+        used = self.used_by(one)
+        here = [f"[`{other.name}`](#{other.anchor()})" for other in used if folder in other.path.parents]
+        there = [linked(other) for other in used if folder not in other.path.parents]
         lines = [one.module] * bool(one.module) + [*one.comment, *one.lines]
         head = ["", f"### `{one.name}` (`{path.name}`)", "", f"File: [{path.relative_to('crates')}](../../{path})."]
-        return [*head, *[f"Uses: {used}."] * bool(used), "", "```agda", *lines, "```"]
+        said = [f"Uses: {', '.join(here)}."] * bool(here) + [f"Of other crates: {', '.join(there)}."] * bool(there)
+        return [*head, *said, "", "```agda", *lines, "```"]
 
     def theorem(self):
         """Returns the page of the main theorem, and how many definitions, lines and files it has."""
@@ -628,6 +706,28 @@ class Definitions:
         counts = len(order), sum(len(one.code()) for one in order), len({one.path for one in order})
         top = THEOREM.format(count=counts[0], lines=counts[1], files=counts[2], crate=CRATE, call=CALL)
         return top + "\n".join(lines) + "\n", counts
+
+    def steps(self):
+        """Returns the steps of a run, each with the promises of a handler's contract that it has."""
+        steps = [one for one in self.used_by(self.all[RUNNING, STEPS]) if one.path == RUNNING]
+        calls = {one: re.findall(r"pub (?:call|answers) : (\w+)", "\n".join(one.code())) for one in steps}
+        return {one: [self.resolve(self.imports[RUNNING], RUNNING, name) for name in calls[one]] for one in steps}
+
+    def run(self):
+        """Returns the page of the theorem of runs."""
+        folder = CRATES / RUNS
+        order = self.reading_order(self.all[RUNNING, RUN_CLAUSE], set(), folder)
+        counts = len(order), sum(len(one.code()) for one in order)
+        law = (folder / "src" / "laws.rt").read_text()
+        docs = re.search(r"((?:^///.*\n)+)pub fn runs_are_safe", law, re.M)[1]
+        sentence = "\n> ".join(line.removeprefix("/// ") for line in docs.splitlines())
+        text = RUN.format(count=counts[0], lines=counts[1], crate=RUNS, sentence=sentence)
+        text += "\n".join(["", *section(GUIDE_OF_RUNS, "What an engine does")]) + "\n" + RUN_TABLE
+        for one, calls in self.steps().items():
+            of = ", ".join(linked(call) for call in calls)
+            text += f"| [`{one.name}`](#{one.anchor()}) | {comment_of(one)} | {of} | {len(one.code())} |\n"
+        text += "\n".join(["", *section(GUIDE_OF_RUNS, "What it does not cover")]) + "\n" + RUN_DEFINITIONS
+        return text + "\n".join(line for one in order for line in self.shown(one, folder)) + "\n"
 
     def words(self):
         """Returns the index of the definitions, without those for private functions and tests."""
@@ -1108,6 +1208,21 @@ def place_faults(documents, definitions):
                     yield f"{path.relative_to(ROOT)}: {file} does not define `{word}`"
 
 
+# ---- The steps of a run on the page for callers.
+
+# A row of the table there: a step, and the promise of the handler's contract.
+STEP_ROW = re.compile(r"^\| `(\w+)` \|[^|]*\| (?:`(\w+)`)? *\|[^|]*\|[^|]*\|$", re.M)
+
+
+def step_faults(text, definitions):
+    """Yields the steps of a run that the table of a page lacks, and the rows that are not as the step says."""
+    rows = dict(STEP_ROW.findall(text))
+    steps = {one.name: "".join(call.name for call in calls) for one, calls in definitions.steps().items()}
+    for name in steps.keys() | rows.keys():
+        if name not in rows or name not in steps or rows[name] != steps[name]:
+            yield f"{GUIDE_OF_RUNS.relative_to(ROOT)}: the table of steps is not right about `{name}`"
+
+
 # ---- All documents.
 
 
@@ -1188,6 +1303,7 @@ def checks(modules, definitions, pages, counts):
         "quotations": quotation_faults,
         "places": lambda documents: place_faults(guides_of(documents), definitions),
         "map": lambda documents: map_faults(documents, modules),
+        "steps": lambda documents: step_faults(documents.get(GUIDE_OF_RUNS, ""), definitions),
     }
 
 
@@ -1218,6 +1334,8 @@ def planted(documents):
     yield "counts", theorem, re.search(r"\d+()(?= definitions)", documents[theorem]).span(1), "0"
     for pattern in (r"^ *node -- .*()", r"^\|[^|]*\| `\w+()[`/]"):
         yield "map", MAP, re.search(pattern, documents[MAP], re.M).span(1), "x"
+    for row in STEP_ROW.finditer(documents[GUIDE_OF_RUNS]):
+        yield from (("steps", GUIDE_OF_RUNS, (row.end(group),) * 2, "x") for group in (1, 2) if row[group])
 
 
 def missed_faults(documents, tests):
@@ -1248,6 +1366,7 @@ def main():
     reference = Reference(modules)
     pages = {PAGES / f"{crate}.md": reference.page(crate) for crate in reference.paths}
     pages[PAGES / "theorem.md"], counts = definitions.theorem()
+    pages[PAGES / "run.md"] = definitions.run()
     pages[PAGES / "words.md"] = definitions.words()
     if not sys.argv[1:]:
         PAGES.mkdir(exist_ok=True)
