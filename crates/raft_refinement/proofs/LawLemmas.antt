@@ -1,5 +1,5 @@
 -- The leader ids of a kind are ranked: what the traits promise is what the rules need.
-use Rattle.std.specs.Prelude.{◌≡◌, ◌<◌, ℕ, true, List, [], ◌∷◌, map, Some, None}
+use Rattle.std.specs.Prelude.{◌≡◌, ◌+◌, ◌<◌, ℕ, true, List, [], ◌∷◌, map, Some, None}
 use Rattle.std.specs.Cmp.{IsEquivalence, IsPartialOrder, IsTotalOrder}
 use Rattle.std.specs.Option.{option_map}
 use Rattle.std.specs.Ordering.{is_eq, is_le, is_lt, nat_cmp, ordering_reverse, partial_le}
@@ -12,7 +12,7 @@ use Rattle.raft_handlers.specs.Compared.{LeaderMembers}
 use Rattle.raft_progress.specs.progress.Comparisons.{OrdMembers}
 use Rattle.raft_safety.specs.Ranks.{IsAmong, RanksAs, rank_in}
 use Rattle.raft_safety.proofs.lemmas.RankLemmas.{ranked}
-use Rattle.raft_refinement.specs.Running.{Cluster, IsCluster, OneNodeIsACluster}
+use Rattle.raft_refinement.specs.Running.{Cluster, IsCluster, NodesAreACluster}
 use Rattle.raft_refinement.specs.Server.{AreRanked}
 
 -- what the traits promise of ids and of leader ids
@@ -178,22 +178,25 @@ module _ {K L C : Type 0} {ids : OrdMembers K} {kind : LeaderMembers L K C} {log
       omega (arith, zero_term, at, term)
   not_first l (inr among) term same = is.not_start l among same
 
--- one node is a cluster
-pub one_node_cluster : {K L C : Type 0} (kind : LeaderMembers L K C)
+-- nodes with campaigns are a cluster
+pub nodes_cluster : {K L C : Type 0} (kind : LeaderMembers L K C)
     → ((t : ℕ) (n : K) → (kind.term_of (kind.leader_of t n) ≡ t) × (kind.voted (kind.leader_of t n) ≡ Some n)
     × (kind.committed_of t n ≡ kind.committed (kind.leader_of t n)))
-    → ((a b : L) → kind.term_of a ≡ 0 → kind.term_of b ≡ 1 → kind.committed b ≡ kind.committed a → ⊥) → OneNodeIsACluster kind
-one_node_cluster {K} {L} kind made apart start n zero_term = record {
-  has_config = omega arith;
+    → ((a b : L) → kind.committed a ≡ kind.committed b → kind.term_of a ≡ kind.term_of b) → NodesAreACluster kind
+nodes_cluster {K} {L} kind made one_term configs start campaigns some zero_term = record {
+  has_config = some;
   start_term = zero_term;
-  later = λ l among. (let t = term l among in omega (arith, t));
-  node = λ l among. (n, ap kind.voted (only l among) ∙ (made 1 n).1);
-  not_start = λ l among same. apart start l zero_term (term l among) same;
+  later = later;
+  node = λ l among. (let x = campaign_of l among in (x.0.1, ap kind.voted x.2 ∙ (made (x.0.0 + 1) x.0.1).1));
+  not_start = λ l among same. (let t = one_term l start same in let past = later l among in omega (arith, t, past, zero_term));
 }
   where
-    only : (l : L) → IsAmong l (kind.leader_of 1 n ∷ []) → l ≡ kind.leader_of 1 n
-    only l (inl e) = e
-    only l (inr none) = absurd none
+    campaign_of : (l : L) → IsAmong l (map (λ (x : ℕ × K). kind.leader_of (x.0 + 1) x.1) campaigns)
+        → (x : ℕ × K) × IsAmong x campaigns × (l ≡ kind.leader_of (x.0 + 1) x.1)
+    campaign_of l among = from_map (λ (x : ℕ × K). kind.leader_of (x.0 + 1) x.1) l campaigns among
 
-    term : (l : L) → IsAmong l (kind.leader_of 1 n ∷ []) → kind.term_of l ≡ 1
-    term l among = ap kind.term_of (only l among) ∙ (made 1 n).0
+    later : (l : L) → IsAmong l (map (λ (x : ℕ × K). kind.leader_of (x.0 + 1) x.1) campaigns) → 0 < kind.term_of l
+    later l among =
+        let x = campaign_of l among in
+        let t : kind.term_of l ≡ x.0.0 + 1 = ap kind.term_of x.2 ∙ (made (x.0.0 + 1) x.0.1).0 in
+        omega (arith, t)

@@ -5,6 +5,7 @@ pub mod PlaceLemmas
 pub mod VotingLemmas
 pub mod AppendingLemmas
 pub mod ElectingLemmas
+pub mod KnownLemmas
 pub mod SteppingLemmas
 pub mod RunningLemmas
 pub mod LawLemmas
@@ -12,4 +13,6 @@ pub mod SeenLemmas
 pub mod ViewLemmas
 pub mod WrapperLemmas
 pub mod MatchingLemmas
+pub mod SendingLemmas
+pub mod RestartLemmas
 pub mod ProposingLemmas

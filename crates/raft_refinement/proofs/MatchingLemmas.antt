@@ -41,6 +41,7 @@ use Rattle.raft_progress.specs.declared.entry.ProgressEntryOf.{ProgressEntryOf}
 use Rattle.raft_progress.specs.declared.inflight.InflightError.{InflightError}
 use Rattle.raft_progress.specs.declared.inflight.InflightError.TheVariants.{ConflictBelowMatching, IndexTooLarge, MatchingRegress}
 use Rattle.raft_progress.specs.declared.inflight.InflightOf.{InflightOf}
+use Rattle.raft_progress.specs.declared.inflight.InflightOf.TheVariants.{None as Idle}
 use Rattle.raft_safety.specs.Events.{log_after}
 use Rattle.raft_safety.specs.Facts.{HasAcked}
 use Rattle.raft_state.specs.log_id_list.FullLog.{full_log}
@@ -106,6 +107,36 @@ module _ {K N L C E : Type 0} (k : Leaders L C K) (p : Place L C K E) (eq : K �
 
   pub same_matches : new ≡ old → KnowsMatches k p leader node (λ r. match_of (entry_of eq new r))
   same_matches same = keeps_matches (λ x. ap (λ (l : Leadership K N C). entry_of eq l x) same)
+
+  -- what is given up changes no match
+  pub given_up : (to : K) → (entry_of eq old to ≡ None → new ≡ old)
+      → ((entry : ProgressEntryOf C) → entry_of eq old to ≡ Some entry → WritesEntry eq old to (record entry { inflight = Idle }) new)
+      → KnowsMatches k p leader node (λ r. match_of (entry_of eq new r))
+  given_up to unknown idle = by (entry_of eq old to) refl
+    where
+      by : (o : Option (ProgressEntryOf C)) → entry_of eq old to ≡ o → KnowsMatches k p leader node (λ r. match_of (entry_of eq new r))
+      by None f = same_matches (unknown f)
+      by (Some entry) f =
+          writes_match to (record entry { inflight = Idle }) (idle entry f)
+          (record { in_log = λ m e. knows.in_log to m (ap match_of f ∙ e); acked = λ m e. knows.acked to m (ap match_of f ∙ e) })
+
+-- a leader that gives up what is in flight to a member changes nothing but what it knows of the member
+module _ {K N C : Type 0} (eq : K → K → Bool) (old new : Leadership K N C) (to : K) (unknown : entry_of eq old to ≡ None → new ≡ old)
+    (idle : (entry : ProgressEntryOf C) → entry_of eq old to ≡ Some entry
+    → WritesEntry eq old to (record entry { inflight = Idle }) new) where
+  pub give_up_members : new.followers.membership ≡ old.followers.membership
+  give_up_members = by (entry_of eq old to) refl
+    where
+      by : (o : Option (ProgressEntryOf C)) → entry_of eq old to ≡ o → new.followers.membership ≡ old.followers.membership
+      by None f = ap (λ (l : Leadership K N C). l.followers.membership) (unknown f)
+      by (Some entry) f = (idle entry f).member.members
+
+  pub give_up_node : new ≡ record old { followers = new.followers }
+  give_up_node = by (entry_of eq old to) refl
+    where
+      by : (o : Option (ProgressEntryOf C)) → entry_of eq old to ≡ o → new ≡ record old { followers = new.followers }
+      by None f = subst (λ (l : Leadership K N C). l ≡ record old { followers = l.followers }) (sym (unknown f)) refl
+      by (Some entry) f = (idle entry f).rest
 
 -- a leader that counts its own log up to a log id, which it has acknowledged
 module _ {K N I L C E : Type 0} (ids : OrdMembers K) (node_eq : N → N → Bool) (kind : LeaderMembers L K C) (logs : OrdMembers C)

@@ -54,7 +54,7 @@ use Rattle.raft_state.specs.declared.entry.payload.EntryPayload.{EntryPayload}
 use Rattle.raft_state.specs.declared.raft_state.RaftStateIn.{RaftStateIn}
 use Rattle.raft_state.proofs.lemmas.log_id_list.KeptLemmas.{last_of_parts}
 use Rattle.raft_state.proofs.lemmas.log_id_list.SameLogLemmas.{says_same}
-use Rattle.raft_refinement.specs.Electing.{ProposesByRule}
+use Rattle.raft_refinement.specs.Electing.{ProposesByRule, ProposesOwn}
 use Rattle.raft_refinement.specs.Seen.{leaders_of, seen}
 use Rattle.raft_refinement.specs.Server.{IsIdAt, IsInHistory, IsInLog, IsLastId, IsServer, KnowsCommitted, Leaders, Place, State}
 use Rattle.raft_refinement.proofs.PlaceLemmas.{same_logs, same_state}
@@ -188,11 +188,9 @@ module _ {K N I L C E : Type 0} (ids : OrdMembers K) (node_eq : N → N → Bool
     (is : IsInHistory (leaders_of (compared ids node_eq kind logs)) p (seen old))
     (el : IsElected p.rank p.quorum p.history (kind.committed (vote_of old).leader_id) p.server)
     (in_terms : IsAmong (kind.committed (vote_of old).leader_id) p.terms) (started : is_some (last_id (full_log old.log_ids)) ≡ true) where
-  -- what the calls promise of each content of the entry
+  -- what the calls promise
   abbrev pub Proposed : Type 0
-  Proposed = (content : E) → p.history.leader_log (kind.committed (vote_of old).leader_id) p.server
-      ≡ log_after (p.history.events p.server) ++ (record { term = kind.committed (vote_of old).leader_id; content = content }) ∷ []
-      → ProposesByRule (leaders_of (compared ids node_eq kind logs)) p (vote_of old).leader_id (p.history.events p.server) (seen new)
+  Proposed = ProposesOwn (leaders_of (compared ids node_eq kind logs)) p (vote_of old).leader_id (p.history.events p.server) (seen new)
 
   proposed : {D : Type 0} (payload : EntryPayload K N D) (entry : EntryOf C K N D)
       → AppendsOwn (compared ids node_eq kind logs) leader payload old new entry → Proposed

@@ -87,12 +87,12 @@ use Rattle.raft_refinement.proofs.Views.{
   Idles,
   SeesIdle,
 }
-use Rattle.raft_safety.proofs.lemmas.PrefixLemmas.{append-nil, prefix_itself, prefix_length, prefix_take, prefix_trans, take_within}
+use Rattle.raft_safety.proofs.lemmas.PrefixLemmas.{append-nil, prefix_itself, prefix_length, prefix_take, prefix_trans}
 use Rattle.raft_safety.proofs.lemmas.ServerLemmas.{voted_term}
-use Rattle.raft_safety.proofs.lemmas.ApplyLemmas.{applied}
 use Rattle.raft_safety.proofs.lemmas.ExecutionLemmas.{all_times_agree, execution_keeps_facts, step_keeps_facts}
 use Rattle.raft_refinement.proofs.AppendingLemmas.{at_within, get_within, index_found, prefix_get, take_get}
 use Rattle.raft_refinement.proofs.ElectingLemmas.{acked_less, commits_by_rule, own_past}
+use Rattle.raft_refinement.proofs.KnownLemmas.{leader_knows, part_known}
 use Rattle.raft_refinement.proofs.SteppingLemmas.{
   Q,
   appends_are_steps,
@@ -351,18 +351,8 @@ module _ {L C K D M : Type 0} (c : SeenCluster L C K D M) (is_cluster : IsSeenCl
       own_known : (n : ℕ) → KnowsCommitted c.rank (Q c is_cluster) inv.h (inv.h.events s) n
           → IsKnownCommitted c.rank (Q c is_cluster) inv.h (c.kind.committed (w.servers s).vote.leader_id) s n
       own_known n knows =
-          let may = knows.may in
-          let low = knows.reached in
-          let same = applied c.rank (Q c is_cluster) inv.h lawful (safe c is_cluster inv.h inv.earlier inv.past) (inv.h.events s) n may in
-          record {
-            in_term = may.known.in_term;
-            by_leader = may.known.by_leader;
-            committed_to = may.known.committed_to;
-            counted_at = may.known.counted_at;
-            committed = may.known.committed;
-            not_later = omega (arith, may.known.not_later, low, (inv.server s).reached);
-            is = rw (ap (λ (l : List (Entry C D)). take n l) is_own.log ∙ same) may.known.is;
-          }
+          leader_knows c.rank (Q c is_cluster) inv.h (inv.h.events s) lawful (safe c is_cluster inv.h inv.earlier inv.past)
+          (c.kind.committed (w.servers s).vote.leader_id) s is_own.log (inv.server s).reached n knows
 
     sends : Sends c s w v → Carried c w v inv
     sends d =
@@ -505,37 +495,11 @@ module _ {L C K D M : Type 0} (c : SeenCluster L C K D M) (is_cluster : IsSeenCl
 
     -- ---- a restart, and a purge
 
-    -- what a server knows to be committed, it knows to be so in part
-    less_known : (es : List (Event C K D)) (m n : ℕ) → m ≤ n → KnowsCommitted c.rank (Q c is_cluster) inv.h es n
-        → KnowsCommitted c.rank (Q c is_cluster) inv.h es m
-    less_known es m n le knows =
-        let may = knows.may in
-        record {
-          may = record {
-            term = may.term;
-            leader = may.leader;
-            elected = may.elected;
-            written = (let most = may.written in omega (arith, le, most));
-            in_log = prefix_trans (take_within m n (inv.h.leader_log may.term may.leader) le) may.in_log;
-            known = record {
-              in_term = may.known.in_term;
-              by_leader = may.known.by_leader;
-              committed_to = may.known.committed_to;
-              counted_at = may.known.counted_at;
-              committed = may.known.committed;
-              not_later = may.known.not_later;
-              is = prefix_trans (take_within m n (inv.h.leader_log may.term may.leader) le) may.known.is;
-            };
-          };
-          reached = knows.reached;
-        }
-
     -- each part of what a server knows to be committed it may apply
     committed_part : (i : ℕ) → suc (suc i) ≤ next_index (w.servers s).committed
         → KnowsCommitted c.rank (Q c is_cluster) inv.h (inv.h.events s) (suc i)
     committed_part i le =
-        let j = next_index (w.servers s).committed - 2 in
-        less_known (inv.h.events s) (suc i) (suc j) (omega (arith, le)) ((inv.server s).committed j (omega (arith, le)))
+        part_known c.rank (Q c is_cluster) inv.h (inv.h.events s) (next_index (w.servers s).committed) (inv.server s).committed i le
 
     sends_snapshot : SendsSnapshot c s w v → Carried c w v inv
     sends_snapshot d =
@@ -578,11 +542,12 @@ module _ {L C K D M : Type 0} (c : SeenCluster L C K D M) (is_cluster : IsSeenCl
           in_use = is.in_use;
           reached = is.reached;
           voted_for = is.voted_for;
-          log = record { last = is.log.last; each = is.log.each };
-          purged = is.purged;
+          log = record { last = rw d.same_end is.log.last; each = λ i y at. is.log.each i y (d.kept i y at) };
+          purged = λ i at. committed_part i (let m = d.is_committed in omega (arith, at, m));
           committed = λ i at. committed_part i (let m = d.no_more in omega (arith, at, m));
         }))
-        (subst (λ (x : State L C). OwnVote c inv.h s x) (sym d.call) (same_own (record (w.servers s) { committed = d.known }) refl))
+        (subst (λ (x : State L C). OwnVote c inv.h s x) (sym d.call)
+        (same_own (record (w.servers s) { ids = d.left; purged_next = d.next; committed = d.known }) refl))
         (same_sent d.sends inv.h)
 
     purges : Purges c s w v → Carried c w v inv

@@ -299,6 +299,24 @@ purged_found {C} xs upto i y past h = by (nat_le (end_index xs) upto.index) past
     by true e g = absurd (true≢false e)
     by false e g = two (nat_lt upto.index (first_index xs)) g
 
+-- a purge up to a log id of a log leaves the log ids from there on, with the last one
+pub purge_keeps : {C : Type 0} (cmp : C → C → Ordering) (keys : List (LogIdOf C)) (upto : LogIdOf C) → IsKeyList cmp keys
+    → id_at (full_log keys) upto.index ≡ Some upto
+    → ((i : ℕ) (y : LogIdOf C) → id_at (log_after_purge (full_log keys) upto) i ≡ Some y → id_at (full_log keys) i ≡ Some y)
+    × (last_id (log_after_purge (full_log keys) upto) ≡ last_id (full_log keys))
+purge_keeps cmp keys upto are at =
+    let row : From (first_index (full_log keys)) (full_log keys) = from_first cmp keys are in
+    let w = index_within (first_index (full_log keys)) upto.index (full_log keys) upto row at in
+    let w0 = w.0 in
+    let w1 = w.1 in
+    let e = end_at (first_index (full_log keys)) (full_log keys) row w1 w0 in
+    let inside : upto.index < end_index (full_log keys) = omega (arith, e, w1) in
+    let not_past : nat_le (end_index (full_log keys)) upto.index ≡ false = grind (arith, nat_tests) in (
+      λ i y found. purged_found (full_log keys) upto i y not_past found,
+      purged_ends (full_log keys) upto row
+          ∙ ap (λ (b : Bool). if b then Some upto else last_id (full_log keys)) not_past,
+    )
+
 purged_alone : {C : Type 0} (upto : LogIdOf C) → log_after_purge [] upto ≡ upto ∷ []
 purged_alone {C} upto = by (nat_le (end_index {C = C} []) upto.index) (grind (arith, nat_tests))
   where

@@ -37,6 +37,7 @@ use Rattle.raft_handlers.specs.Compared.{LeaderMembers, compared}
 use Rattle.raft_handlers.specs.Entries.{entry_ids}
 use Rattle.raft_handlers.specs.Follow.{elected, heard, is_followed}
 use Rattle.raft_handlers.specs.Leadership.{Leadership, MajorityMatches, entry_of, granted_by, is_of_leader}
+use Rattle.raft_handlers.specs.Responses.{SendsNext}
 use Rattle.raft_handlers.specs.Snapshot.{AnswersSnapshot}
 use Rattle.raft_handlers.specs.declared.message.InstallSnapshot.{InstallSnapshot}
 use Rattle.raft_handlers.specs.declared.message.Outcome.{Outcome}
@@ -45,11 +46,14 @@ use Rattle.raft_members.specs.quorum.Majority.{is_joint_majority}
 use Rattle.raft_progress.specs.progress.Comparisons.{OrdMembers}
 use Rattle.raft_progress.proofs.lemmas.OrderLemmas.{AtMost-refl}
 use Rattle.raft_progress.specs.declared.entry.ProgressEntryOf.{ProgressEntryOf}
+use Rattle.raft_progress.specs.declared.inflight.InflightOf.{InflightOf}
+use Rattle.raft_progress.specs.declared.inflight.InflightOf.TheVariants.{None as Idle, Logs, Snapshot}
 use Rattle.raft_safety.specs.Ranks.{IsAmong, rank_in}
 use Rattle.raft_safety.proofs.lemmas.JointLemmas.{itself_intersects}
 use Rattle.raft_state.specs.SnapshotMeta.{IsSnapshotCopy}
 use Rattle.raft_state.specs.log_id_list.FullLog.{full_log}
 use Rattle.raft_state.specs.log_id_list.Keys.{may_be_keys}
+use Rattle.raft_state.specs.log_id_list.LogEdits.{log_after_purge}
 use Rattle.raft_state.specs.log_id_list.LogReads.{id_at, last_id}
 use Rattle.raft_state.specs.raft_state.Sound.{IsSound}
 use Rattle.raft_state.specs.membership_state.MembershipMoves.{after_commit}
@@ -60,6 +64,7 @@ use Rattle.raft_state.specs.declared.entry.EntryOf.{EntryOf}
 use Rattle.raft_state.specs.declared.raft_state.RaftStateIn.{RaftStateIn}
 use Rattle.raft_state.proofs.lemmas.log_id_list.ExtendLemmas.{is_key_list}
 use Rattle.raft_state.proofs.lemmas.log_id_list.SameLogLemmas.{says_same}
+use Rattle.raft_refinement.specs.Disk.{disk_ids}
 use Rattle.raft_refinement.specs.Electing.{match_of}
 use Rattle.raft_refinement.specs.Running.{
   AnswersCandidate,
@@ -67,6 +72,8 @@ use Rattle.raft_refinement.specs.Running.{
   AnswersSnapshotOf,
   Answered,
   Cluster,
+  Carries,
+  ChangesElse,
   CommitsGranted,
   CommittedAgree,
   CountsVote,
@@ -83,6 +90,7 @@ use Rattle.raft_refinement.specs.Running.{
   OneCommit,
   OneCount,
   OneElection,
+  OneElse,
   OneProposal,
   OnePurge,
   OneRestart,
@@ -117,8 +125,10 @@ use Rattle.raft_refinement.proofs.SeenLemmas.{
   installs_seen,
   matches_seen,
   not_higher,
+  purge_keeps,
   sound_is_whole,
 }
+use Rattle.raft_refinement.proofs.SendingLemmas.{sent_in_log}
 use Rattle.raft_refinement.proofs.Stepping.{IsSeenCluster, SeenCluster}
 use Rattle.raft_refinement.proofs.Views.{
   IsSeenFirst,
@@ -649,7 +659,7 @@ module _ {K N I L C D : Type 0} {ids : OrdMembers K} (node_eq : N → N → Bool
         };
         prev = d.request.prev;
         ids = entry_ids d.request.entries.items;
-        has_prev = d.prev;
+        has_prev = prev_in d.sending d.call d.prev;
         has_ids = λ x among. by x (from_map (λ (e : EntryOf C K N D). e.log_id) x d.request.entries.items among);
         has_committed = committed_found node_eq laws exact.committed (w.servers s) (holds.sound s);
         call = ap seen d.state;
@@ -667,6 +677,15 @@ module _ {K N I L C D : Type 0} {ids : OrdMembers K} (node_eq : N → N → Bool
             → id_at (full_log (w.servers s).log_ids) x.index ≡ Some x
         by x (e, among, same) =
             subst (λ (y : LogIdOf C). id_at (full_log (w.servers s).log_ids) y.index ≡ Some y) (sym same) (d.entries e among)
+
+        prev_in : (o : InflightOf C)
+            → SendsNext ids.eq logs d.to (log_view_of (w.servers s)) d.max_entries d.leader d.after (Some o)
+            → Carries ids node_eq kind logs c s w v o d.request.prev → (x : LogIdOf C) → d.request.prev ≡ Some x
+            → id_at (full_log (w.servers s).log_ids) x.index ≡ Some x
+        prev_in (Logs id range) call same x e =
+            sent_in_log ids.eq logs (w.servers s) d.leader d.after d.to d.max_entries (Logs id range) call x (sym same ∙ e)
+        prev_in Idle call has x e = has x e
+        prev_in (Snapshot id last) call none x e = absurd none
 
     send_snapshot_seen : SendsSnapshot ids node_eq kind logs c s w v → IsSeenStep s w v
     send_snapshot_seen d = record {
@@ -801,17 +820,26 @@ module _ {K N I L C D : Type 0} {ids : OrdMembers K} (node_eq : N → N → Bool
     restart_seen d = record {
       does = SeesRestart (record {
         known = (v.servers s).committed;
+        next = (v.servers s).purged_next;
+        left = full_log (v.servers s).log_ids;
         no_more = d.no_more;
+        is_committed = (let n = d.call.purged in let m = d.disk.snapshot in omega (arith, n, m));
+        same_end = ap last_id log_is ∙ d.disk.same_end;
+        kept = λ i x at. d.disk.log i x (ap (λ (l : List (LogIdOf C)). id_at l i) (sym log_is) ∙ at);
         call = same_state (seen (v.servers s)) (record (seen (w.servers s)) {
-          committed =
-              (v.servers s).committed;
-        }) d.same_vote d.log d.purged refl;
+          ids = full_log (v.servers s).log_ids;
+          purged_next = (v.servers s).purged_next;
+          committed = (v.servers s).committed;
+        }) d.same_vote refl refl refl;
         sends = ap seen_network d.sends;
       });
       grows = none_sent d.sends;
       campaign = λ x at. absurd (none_there x (sym d.campaign ∙ at));
     }
       where
+        log_is : full_log (v.servers s).log_ids ≡ disk_ids logs.eq d.meta d.stored
+        log_is = same_logs logs.eq exact.committed _ _ (says_same logs.eq _ _ d.call.log)
+
         none_there : (x : Campaign K N L C) → None ≡ Some x → ⊥
         none_there x e = cc
 
@@ -820,15 +848,28 @@ module _ {K N I L C D : Type 0} {ids : OrdMembers K} (node_eq : N → N → Bool
       does = SeesPurge (record {
         next = (v.servers s).purged_next;
         left = full_log (v.servers s).log_ids;
-        is_committed = d.is_committed;
-        same_end = d.same_end;
-        kept = d.kept;
+        is_committed = (let n = ap (λ (x : RaftStateIn K N I L C). x.purged_next) d.rest in let m = d.is_known in
+            omega (arith, n, m));
+        same_end = ap last_id d.log ∙ keeps.1;
+        kept = λ i x at. keeps.0 i x (ap (λ (l : List (LogIdOf C)). id_at l i) (sym d.log) ∙ at);
         call = same_state (seen (v.servers s)) (record (seen (w.servers s)) {
           ids = full_log (v.servers s).log_ids;
           purged_next = (v.servers s).purged_next;
-        }) d.vote refl refl d.committed;
+        }) (ap vote_of d.rest) refl refl (ap (λ (x : RaftStateIn K N I L C). x.committed) d.rest);
         sends = ap seen_network d.sends;
       });
+      grows = none_sent d.sends;
+      campaign = same_campaign d.campaign (none_sent d.sends);
+    }
+      where
+        keeps : ((i : ℕ) (y : LogIdOf C) → id_at (log_after_purge (full_log (w.servers s).log_ids) d.upto) i ≡ Some y
+            → id_at (full_log (w.servers s).log_ids) i ≡ Some y)
+            × (last_id (log_after_purge (full_log (w.servers s).log_ids) d.upto) ≡ last_id (full_log (w.servers s).log_ids))
+        keeps = purge_keeps logs.cmp (w.servers s).log_ids d.upto (is_key_list logs.cmp (w.servers s).log_ids (holds.keys s)) d.logged
+
+    else_seen : ChangesElse ids node_eq kind logs c s w v → IsSeenStep s w v
+    else_seen d = record {
+      does = idle d.same (ap seen_network d.sends);
       grows = none_sent d.sends;
       campaign = same_campaign d.campaign (none_sent d.sends);
     }
@@ -846,6 +887,7 @@ module _ {K N I L C D : Type 0} {ids : OrdMembers K} (node_eq : N → N → Bool
     does_seen (OneCommit d) = commit_seen d
     does_seen (OneRestart d) = restart_seen d
     does_seen (OnePurge d) = purge_seen d
+    does_seen (OneElse d) = else_seen d
 
   -- ---- runs
 

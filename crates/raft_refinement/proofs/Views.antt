@@ -167,13 +167,18 @@ module _ {L C K D M : Type 0} (c : SeenCluster L C K D M) (s : K) (w v : SeenWor
     pub call : v.servers s ≡ record (w.servers s) { committed = Some granted }
     pub sends : v.network ≡ w.network
 
-  -- a server restarts: every call was written to disk before it was answered, so vote and log are as they
-  -- were, and what it knows to be committed may be less. A call of which a crash leaves a part is one of
-  -- fewer entries, whose answer was lost
+  -- a server restarts: every call was written to disk before it was answered, so the vote and the end of the
+  -- log are as they were. A part of what is committed may be purged, and what it knows to be committed may be
+  -- less. A call of which a crash leaves a part is one of fewer entries, whose answer was lost
   pub record Restarts : Type 0 where
     pub known : Option (LogIdOf C)
+    pub next : ℕ
+    pub left : List (LogIdOf C)
     pub no_more : next_index known ≤ next_index (w.servers s).committed
-    pub call : v.servers s ≡ record (w.servers s) { committed = known }
+    pub is_committed : next ≤ next_index (w.servers s).committed
+    pub same_end : last_id left ≡ last_id (w.servers s).ids
+    pub kept : (i : ℕ) (x : LogIdOf C) → id_at left i ≡ Some x → id_at (w.servers s).ids i ≡ Some x
+    pub call : v.servers s ≡ record (w.servers s) { ids = left; purged_next = next; committed = known }
     pub sends : v.network ≡ w.network
 
   -- a server purges a part of what is committed: the log ids from there on stay

@@ -85,7 +85,7 @@ use Rattle.raft_refinement.proofs.SeenLemmas.{
 }
 use Rattle.raft_refinement.proofs.VotingLemmas.{campaigns_keep_rule}
 
-same_outcome : {L C X : Type 0} (x y : Response L C × X) → (let a : Result (Response L C × X) HandlerError = Ok x in
+pub same_outcome : {L C X : Type 0} (x y : Response L C × X) → (let a : Result (Response L C × X) HandlerError = Ok x in
     let b : Result (Response L C × X) HandlerError = Ok y in a ≡ b) → x.0.outcome ≡ y.0.outcome
 same_outcome {L} {C} {X} x y e = let same : x ≡ y = cc in ap (λ (z : Response L C × X). z.0.outcome) same
 
@@ -159,7 +159,7 @@ unheard kind leader s none = by (is_followed kind.order leader s) none
     by true e = absurd (true≢false e)
 
 -- a call that returns a response has no reason to refuse
-no_reason : {T : Type 0} (o : Option HandlerError) (x : T) → (let r : Result T HandlerError = Ok x in
+pub no_reason : {T : Type 0} (o : Option HandlerError) (x : T) → (let r : Result T HandlerError = Ok x in
     RefusedFor o r)
     → o ≡ None
 no_reason None x h = refl
@@ -462,3 +462,33 @@ module _ {K N I L C E : Type 0} (ids : OrdMembers K) (node_eq : N → N → Bool
         × HasCommitted (leaders_of (compared ids node_eq kind logs)) p (vote_of old).leader_id id (p.history.events p.server) (seen new))
     committed_by_rule (Ok more) call = commit_by_rule more call
     committed_by_rule (Err e) call = tt
+
+-- a new leader counts no match
+module _ {K N I L C : Type 0} (ids : OrdMembers K) (node_eq : N → N → Bool) (kind : LeaderMembers L K C) (logs : OrdMembers C)
+    (old new : RaftStateIn K N I L C) (candidate : Campaign K N L C) where
+  pub leader_counts_none : (r : Result (Leadership K N C) HandlerError)
+      → IfOk r (BecomesLeader (compared ids node_eq kind logs) candidate old new)
+      → IfOk r (λ made. (v : K) → match_of (entry_of ids.eq made v) ≡ None)
+  leader_counts_none (Ok made) call = λ v. by v (entry_of ids.eq made v) refl
+    where
+      by : (v : K) (o : Option (ProgressEntryOf C)) → entry_of ids.eq made v ≡ o → match_of (entry_of ids.eq made v) ≡ None
+      by v None f = ap match_of f
+      by v (Some entry) f = ap match_of f ∙ ap (λ (e : ProgressEntryOf C). e.matching) (call.begins.entries v entry f)
+  leader_counts_none (Err e) call = tt
+
+-- a count changes nothing but who has voted
+module _ {K N L C : Type 0} (eq : K → K → Bool) (old new : Campaign K N L C) (from : K) (grants : Bool)
+    (counts : grants ≡ true → CountsVoteOf eq from old new) (ignored : grants ≡ false → new ≡ old) where
+  pub count_members : new.votes.membership ≡ old.votes.membership
+  count_members = by grants refl
+    where
+      by : (b : Bool) → grants ≡ b → new.votes.membership ≡ old.votes.membership
+      by true e = (counts e).members
+      by false e = ap (λ (x : Campaign K N L C). x.votes.membership) (ignored e)
+
+  pub count_rest : new ≡ record old { votes = new.votes }
+  count_rest = by grants refl
+    where
+      by : (b : Bool) → grants ≡ b → new ≡ record old { votes = new.votes }
+      by true e = (counts e).rest
+      by false e = subst (λ (x : Campaign K N L C). x ≡ record old { votes = x.votes }) (sym (ignored e)) refl

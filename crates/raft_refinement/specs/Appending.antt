@@ -4,12 +4,15 @@ use Rattle.raft_base.specs.declared.log_id.LogIdOf.{LogIdOf}
 use Rattle.raft_base.specs.LogId.{next_index}
 use Rattle.raft_handlers.specs.declared.message.Outcome.{Outcome}
 use Rattle.raft_handlers.specs.declared.message.Outcome.TheVariants.{Conflict, HigherVote, Matches}
+use Rattle.raft_progress.specs.declared.inflight.InflightOf.{InflightOf}
+use Rattle.raft_progress.specs.declared.inflight.InflightOf.TheVariants.{None as Idle, Logs, Snapshot}
 use Rattle.raft_safety.specs.Apply.{IsKnownCommitted}
 use Rattle.raft_safety.specs.Events.{Event, Append, Ack}
 use Rattle.raft_safety.specs.Facts.{IsElected}
 use Rattle.raft_safety.specs.Log.{Entry}
 use Rattle.raft_safety.specs.Ranks.{IsAmong}
 use Rattle.raft_safety.specs.Rules.{MayAppend, MayAck}
+use Rattle.raft_state.specs.log_id_list.LogReads.{id_at}
 use Rattle.raft_refinement.specs.Server.{IsInLog, IsServer, Leaders, Place, State}
 
 module _ {L C K D : Type 0} (k : Leaders L C K) (p : Place L C K D) where
@@ -46,6 +49,17 @@ module _ {L C K D : Type 0} (k : Leaders L C K) (p : Place L C K D) where
     pub upto_in : IsInLog p.first p.terms (p.history.leader_log (k.committed leader) by_node) upto
     pub is_committed : (i : ℕ) → upto.index ≡ suc i
         → IsKnownCommitted p.rank p.quorum p.history (k.committed leader) by_node (suc i)
+
+  -- what a leader puts in flight is sent by the rules, whatever entries of its log go with it. So is a
+  -- heartbeat about a log id of its log. A snapshot is no part of this
+  abbrev pub SendsByRule : L → List (LogIdOf C) → Option (LogIdOf C) → InflightOf C → Type 0
+  SendsByRule leader log committed Idle =
+      (prev : Option (LogIdOf C)) → ((x : LogIdOf C) → prev ≡ Some x → id_at log x.index ≡ Some x)
+      → IsSent leader prev [] committed
+  SendsByRule leader log committed (Logs id range) =
+      (ids : List (LogIdOf C)) → ((x : LogIdOf C) → IsAmong x ids → id_at log x.index ≡ Some x)
+      → IsSent leader range.prev ids committed
+  SendsByRule leader log committed (Snapshot id last) = Unit {0}
 
   -- a server has appended, and acknowledged up to a log id, by rules 4 and 5, and is the server of its
   -- state after that

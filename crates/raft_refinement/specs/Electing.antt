@@ -1,10 +1,10 @@
 -- What a candidate knows of its votes, and a leader of the logs of its members.
-use Rattle.std.specs.Prelude.{◌≡◌, ℕ, Bool, true, List, Option, Some, None, ◌∷◌, is_some, length, IsTrue}
+use Rattle.std.specs.Prelude.{◌≡◌, ℕ, Bool, true, List, Option, Some, None, [], ◌∷◌, ◌++◌, is_some, length, IsTrue}
 use Rattle.raft_base.specs.declared.log_id.LogIdOf.{LogIdOf}
 use Rattle.raft_handlers.specs.declared.message.Outcome.TheVariants.{Matches}
 use Rattle.raft_handlers.specs.declared.message.Response.{Response}
 use Rattle.raft_progress.specs.declared.entry.ProgressEntryOf.{ProgressEntryOf}
-use Rattle.raft_safety.specs.Events.{Ack, Append, Event}
+use Rattle.raft_safety.specs.Events.{Ack, Append, Event, log_after}
 use Rattle.raft_safety.specs.Facts.{HasAcked, HasVoted, IsCommitted, IsElected}
 use Rattle.raft_safety.specs.Log.{Entry}
 use Rattle.raft_safety.specs.Ranks.{IsAmong}
@@ -53,3 +53,11 @@ module _ {L C K D : Type 0} (k : Leaders L C K) (p : Place L C K D) where
         (k.committed leader) p.server (length log)
     pub server : IsServer k p new (Ack (k.committed leader) p.server (length log)
         ∷ Append (k.committed leader) p.server log ∷ es)
+
+  -- a proposal is by the rules, whatever the content is of the entry that the leader writes at the end of its
+  -- log
+  abbrev pub ProposesOwn : L → List (Event C K D) → State L C → Type 0
+  ProposesOwn leader es new =
+      (content : D) → p.history.leader_log (k.committed leader) p.server
+      ≡ log_after es ++ (record { term = k.committed leader; content = content }) ∷ []
+      → ProposesByRule leader es new

@@ -3,4 +3,5 @@ pub mod Seen
 pub mod Voting
 pub mod Appending
 pub mod Electing
+pub mod Disk
 pub mod Running

@@ -5,7 +5,7 @@
 -- Each handler has a step. A step has the record that the handler's contract promises of the state
 -- before and after the call, the message that the handler takes from the network, and the message that
 -- the server sends afterwards. A step is whole before its message is sent: what it changes is on disk.
-use Rattle.std.specs.Prelude.{◌≡◌, ◌⊎◌, ◌<◌, ◌≤◌, ℕ, Bool, true, false, List, [], ◌∷◌, length, Option, Some, None, IsTrue}
+use Rattle.std.specs.Prelude.{◌≡◌, ◌⊎◌, ◌+◌, ◌<◌, ◌≤◌, ℕ, Bool, true, false, List, [], ◌∷◌, length, map, Option, Some, None, IsTrue}
 use Rattle.raft_base.specs.declared.log_id.LogIdOf.{LogIdOf}
 use Rattle.raft_base.specs.LogId.{next_index}
 use Rattle.raft_handlers.specs.Append.{Answers, IfHigherVote}
@@ -14,6 +14,8 @@ use Rattle.raft_handlers.specs.Compared.{LeaderMembers, compared}
 use Rattle.raft_handlers.specs.Follow.{heard, is_followed, vote_heard}
 use Rattle.raft_handlers.specs.Leadership.{BecomesLeader, Commits, Leadership, entry_of, is_leading}
 use Rattle.raft_handlers.specs.Proposals.{AppendsOwn}
+use Rattle.raft_handlers.specs.Responses.{SendsNext}
+use Rattle.raft_handlers.specs.Restart.{Restores}
 use Rattle.raft_handlers.specs.Snapshot.{AnswersSnapshot, snapshot_refusal}
 use Rattle.raft_handlers.specs.Vote.{Grants}
 use Rattle.raft_handlers.specs.declared.message.AppendEntries.{AppendEntries}
@@ -24,18 +26,24 @@ use Rattle.raft_handlers.specs.declared.message.VoteRequest.{VoteRequest}
 use Rattle.raft_handlers.specs.declared.message.VoteResponse.{VoteResponse}
 use Rattle.raft_progress.specs.progress.Comparisons.{OrdMembers}
 use Rattle.raft_progress.specs.declared.entry.ProgressEntryOf.{ProgressEntryOf}
+use Rattle.raft_progress.specs.declared.inflight.InflightOf.{InflightOf}
+use Rattle.raft_progress.specs.declared.inflight.InflightOf.TheVariants.{None as Idle, Logs, Snapshot}
+use Rattle.raft_refinement.specs.Disk.{HasOnDisk}
+use Rattle.raft_refinement.specs.Seen.{seen}
 use Rattle.raft_safety.specs.Ranks.{IsAmong}
 use Rattle.raft_state.specs.SnapshotMeta.{IsSnapshotCopy}
 use Rattle.raft_state.specs.entry.Entry.{payload_membership}
 use Rattle.raft_state.specs.log_id_list.FullLog.{full_log}
 use Rattle.raft_state.specs.log_id_list.Keys.{may_be_keys}
+use Rattle.raft_state.specs.log_id_list.LogEdits.{log_after_purge}
 use Rattle.raft_state.specs.log_id_list.LogReads.{id_at, last_id}
 use Rattle.raft_state.specs.membership_state.Memberships.{in_effect}
 use Rattle.raft_state.specs.raft_state.Sound.{IsSound}
-use Rattle.raft_state.specs.raft_state.VoteAndLog.{vote_of}
+use Rattle.raft_state.specs.raft_state.VoteAndLog.{log_view_of, vote_of}
 use Rattle.raft_state.specs.declared.entry.EntryOf.{EntryOf}
 use Rattle.raft_state.specs.declared.entry.payload.EntryPayload.{EntryPayload}
 use Rattle.raft_state.specs.declared.raft_state.RaftStateIn.{RaftStateIn}
+use Rattle.raft_state.specs.declared.snapshot_meta.SnapshotMetaOf.{SnapshotMetaOf}
 
 -- a message: a candidate's request, and the response of a server; a leader's requests, and what a
 -- server has answered to the leader with this id
@@ -68,17 +76,19 @@ pub record IsCluster {K L C : Type 0} (kind : LeaderMembers L K C) (c : Cluster 
   pub node : (l : L) → IsAmong l c.leaders → (n : K) × (kind.voted l ≡ Some n)
   pub not_start : (l : L) → IsAmong l c.leaders → kind.committed l ≡ kind.committed c.start → ⊥
 
--- a cluster of one node, which campaigns in term 1
-abbrev pub one_node : {K L C : Type 0} → LeaderMembers L K C → L → K → Cluster K L
-one_node kind start n = record {
-  configs = (n ∷ []) ∷ [];
+-- a cluster with these configs, in which each of these nodes campaigns, in the term after this number
+abbrev pub cluster_of : {K L C : Type 0} → LeaderMembers L K C → List (List K) → L → List (ℕ × K) → Cluster K L
+cluster_of {K} kind configs start campaigns = record {
+  configs = configs;
   start = start;
-  leaders = kind.leader_of 1 n ∷ [];
+  leaders = map (λ (x : ℕ × K). kind.leader_of (x.0 + 1) x.1) campaigns;
 }
 
--- whatever the node and the leader id of term 0 are, this is a cluster
-abbrev pub OneNodeIsACluster : {K L C : Type 0} → LeaderMembers L K C → Type 0
-OneNodeIsACluster {K} {L} kind = (start : L) (n : K) → kind.term_of start ≡ 0 → IsCluster kind (one_node kind start n)
+-- whatever the nodes, their campaigns and the leader id of term 0 are, this is a cluster
+abbrev pub NodesAreACluster : {K L C : Type 0} → LeaderMembers L K C → Type 0
+NodesAreACluster {K} {L} kind =
+    (configs : List (List K)) (start : L) (campaigns : List (ℕ × K)) → 0 < length configs
+    → kind.term_of start ≡ 0 → IsCluster kind (cluster_of kind configs start campaigns)
 
 module _ {K N I L C D : Type 0} (ids : OrdMembers K) (node_eq : N → N → Bool)
     (kind : LeaderMembers L K C) (logs : OrdMembers C) where
@@ -160,13 +170,15 @@ module _ {K N I L C D : Type 0} (ids : OrdMembers K) (node_eq : N → N → Bool
       pub campaign : v.campaigns s ≡ w.campaigns s
       pub sends : v.network ≡ w.network
 
-    -- the server leads, in the term of a campaign of its own
+    -- the server leads, in the term of a campaign of its own. An engine keeps this if each leader of it was
+    -- made by `Leader::new` or `Leader::resume`
     pub record Leads (leader : Leadership K N C) : Type 0 where
       pub leads : IsTrue (is_leading (compared ids node_eq kind logs) leader (w.servers s))
       pub node : leader.id ≡ s
       pub in_use : IsAmong (vote_of (w.servers s)).leader_id c.leaders
 
-    -- a leader proposes, and its log is not empty: `propose`, `propose_blank`. The entry holds no membership
+    -- a leader proposes, and its log is not empty: `propose`, `propose_blank`. The entry holds no membership.
+    -- An engine keeps this if no server campaigns before it has the entry at index 0
     pub record Proposes : Type 0 where
       pub leader : Leadership K N C
       pub leads : Leads leader
@@ -178,14 +190,27 @@ module _ {K N I L C D : Type 0} (ids : OrdMembers K) (node_eq : N → N → Bool
       pub campaign : v.campaigns s ≡ w.campaigns s
       pub sends : v.network ≡ w.network
 
-    -- a leader sends entries of its log, with what it has committed: `next_request`
+    -- the log id before the entries of a request is that of what the leader puts in flight, or, in a
+    -- heartbeat, one of the leader's log
+    abbrev pub Carries : InflightOf C → Option (LogIdOf C) → Type 0
+    Carries (Logs id range) prev = prev ≡ range.prev
+    Carries Idle prev = (x : LogIdOf C) → prev ≡ Some x
+        → id_at (full_log (w.servers s).log_ids) x.index ≡ Some x
+    Carries (Snapshot id last) prev = ⊥
+
+    -- a leader sends what it puts in flight: `next_request`. The entries are read from its log, and what it
+    -- has committed goes with them
     pub record SendsEntries : Type 0 where
       pub leader : Leadership K N C
       pub leads : Leads leader
+      pub to : K
+      pub max_entries : ℕ
+      pub sending : InflightOf C
+      pub after : Leadership K N C
+      pub call : SendsNext ids.eq logs to (log_view_of (w.servers s)) max_entries leader after (Some sending)
       pub request : AppendEntries L C K N D
       pub is_own : request.leader_id ≡ (vote_of (w.servers s)).leader_id
-      pub prev : (x : LogIdOf C) → request.prev ≡ Some x
-          → id_at (full_log (w.servers s).log_ids) x.index ≡ Some x
+      pub prev : Carries sending request.prev
       pub entries : (e : EntryOf C K N D) → IsAmong e request.entries.items
           → id_at (full_log (w.servers s).log_ids) e.log_id.index ≡ Some e.log_id
       pub committed : request.committed ≡ (w.servers s).committed
@@ -208,7 +233,8 @@ module _ {K N I L C D : Type 0} (ids : OrdMembers K) (node_eq : N → N → Bool
       pub sends : v.network ≡ SnapshotSent request ∷ w.network
 
     -- a leader commits: `commit`. It counts by the configs of the cluster, and each match that it counts is
-    -- true: it is of the leader's own log, or the member has answered with it
+    -- true: it is of the leader's own log, or the member has answered with it. An engine keeps this if the
+    -- leader takes responses that came, and flushes of its own log: a new leader counts no match
     pub record CommitsGranted : Type 0 where
       pub leader : Leadership K N C
       pub leads : Leads leader
@@ -222,24 +248,37 @@ module _ {K N I L C D : Type 0} (ids : OrdMembers K) (node_eq : N → N → Bool
       pub campaign : v.campaigns s ≡ w.campaigns s
       pub sends : v.network ≡ w.network
 
-    -- a server restarts. What a call changed was on disk before its message was sent, so vote and log are as
-    -- they were. What it knows to be committed may be less, and its campaign is over
+    -- a server restarts from its disk: `restart_server`. What a call changed was on disk before its message
+    -- was sent, so the disk has the vote and the log. What it knows to be committed may be less, and its
+    -- campaign is over
     pub record Restarts : Type 0 where
+      pub meta : SnapshotMetaOf C K N
+      pub stored : List (EntryOf C K N D)
+      pub known : Option (LogIdOf C)
+      pub disk : HasOnDisk logs.eq meta stored (seen (w.servers s))
       pub same_vote : vote_of (v.servers s) ≡ vote_of (w.servers s)
-      pub log : full_log (v.servers s).log_ids ≡ full_log (w.servers s).log_ids
-      pub purged : (v.servers s).purged_next ≡ (w.servers s).purged_next
+      pub call : Restores logs ids.eq node_eq meta stored known (v.servers s)
       pub no_more : next_index (v.servers s).committed ≤ next_index (w.servers s).committed
       pub campaign : v.campaigns s ≡ None
       pub sends : v.network ≡ w.network
 
-    -- a server purges what is committed: the log ids from there on stay
+    -- a server purges its log up to a log id that it knows to be committed: `purge_log`
     pub record Purges : Type 0 where
-      pub vote : vote_of (v.servers s) ≡ vote_of (w.servers s)
-      pub is_committed : (v.servers s).purged_next ≤ next_index (w.servers s).committed
-      pub same_end : last_id (full_log (v.servers s).log_ids) ≡ last_id (full_log (w.servers s).log_ids)
-      pub kept : (i : ℕ) (x : LogIdOf C) → id_at (full_log (v.servers s).log_ids) i ≡ Some x
-          → id_at (full_log (w.servers s).log_ids) i ≡ Some x
-      pub committed : (v.servers s).committed ≡ (w.servers s).committed
+      pub upto : LogIdOf C
+      pub logged : id_at (full_log (w.servers s).log_ids) upto.index ≡ Some upto
+      pub is_known : upto.index < next_index (w.servers s).committed
+      pub log : full_log (v.servers s).log_ids ≡ log_after_purge (full_log (w.servers s).log_ids) upto
+      pub rest : (v.servers s) ≡ record (w.servers s) {
+        purged_next = upto.index + 1;
+        log_ids = (v.servers s).log_ids;
+      }
+      pub campaign : v.campaigns s ≡ w.campaigns s
+      pub sends : v.network ≡ w.network
+
+    -- a server changes nothing but what the theorem does not speak of: it builds a snapshot, schedules a
+    -- purge, or notes what its storage has done, its role or the time
+    pub record ChangesElse : Type 0 where
+      pub same : seen (v.servers s) ≡ seen (w.servers s)
       pub campaign : v.campaigns s ≡ w.campaigns s
       pub sends : v.network ≡ w.network
 
@@ -257,6 +296,7 @@ module _ {K N I L C D : Type 0} (ids : OrdMembers K) (node_eq : N → N → Bool
       OneCommit : CommitsGranted → DoesOne
       OneRestart : Restarts → DoesOne
       OnePurge : Purges → DoesOne
+      OneElse : ChangesElse → DoesOne
 
   -- a server takes one step, and the others do nothing. Each call keeps a sound state sound, and the keys
   -- of a log are in order, as the type of a log keeps them

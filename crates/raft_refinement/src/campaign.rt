@@ -1,10 +1,11 @@
 //! A candidate keeps rules 1 and 2.
-ghost use Rattle.std.specs.Prelude.{◌≡◌, Bool, IfOk, IsTrue, true};
+ghost use Rattle.std.specs.Prelude.{◌≡◌, Bool, IfOk, IsTrue, None, true};
 ghost use Rattle.std.specs.Set.{ClonesAreEqual};
 ghost use Rattle.raft_handlers.specs.Campaign.{has_vote_of};
 ghost use Rattle.raft_handlers.specs.Compared.{compared};
+ghost use Rattle.raft_handlers.specs.Leadership.{entry_of};
 ghost use Rattle.raft_members.specs.quorum.Majority.{is_joint_majority};
-ghost use Rattle.raft_refinement.specs.Electing.{KnowsVotes};
+ghost use Rattle.raft_refinement.specs.Electing.{KnowsVotes, match_of};
 ghost use Rattle.raft_refinement.specs.Seen.{leaders_of, seen};
 ghost use Rattle.raft_refinement.specs.Server.{IsInHistory, IsServer, Place};
 ghost use Rattle.raft_refinement.specs.Voting.{CampaignsByRule};
@@ -64,12 +65,15 @@ pub fn counts<
     ensures knows { let by = compared NID.Ord N.eq L.LeaderIdentity C.Ord in
         KnowsVotes (leaders_of by) p candidate.new.vote.leader_id p.server
         (has_vote_of NID.eq candidate.new) }
+    ensures members { candidate.new.votes.membership ≡ candidate.old.votes.membership }
+    ensures rest { candidate.new ≡ record candidate.old { votes = candidate.new.votes } }
 {
     candidate.handle_vote_response(from, response);
 }
 
 /// Makes an elected candidate the leader, as `Leader::new` does: it is elected by rule 2, if it has
-/// counted true votes by the config in effect in its log.
+/// counted true votes by the config in effect in its log. What it counts is true, because it counts
+/// no match yet.
 pub fn leads<
     NID: NodeId,
     N: Node,
@@ -96,6 +100,7 @@ pub fn leads<
     ensures server { let by = compared NID.Ord N.eq L.LeaderIdentity C.Ord in
         IfOk result (λ _. IsServer (leaders_of by) p (seen state.new)
         (p.history.events p.server)) }
+    ensures no_match { IfOk result (λ made. (r : NID) → match_of (entry_of NID.eq made r) ≡ None) }
 {
     Leader::new(state, candidate)
 }

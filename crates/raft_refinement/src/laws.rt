@@ -1,6 +1,6 @@
 //! Laws: functions whose contracts are statements for callers.
 ghost use Rattle.std.specs.Prelude.{◌≡◌};
-ghost use Rattle.raft_refinement.specs.Running.{OneNodeIsACluster, RunsAreSafe};
+ghost use Rattle.raft_refinement.specs.Running.{NodesAreACluster, RunsAreSafe};
 
 use raft_base::{Instant, LeaderIdentity, Node, NodeId};
 
@@ -10,9 +10,9 @@ pub fn runs_are_safe<NID: NodeId, N: Node, I: Instant, L: LeaderIdentity<Id = NI
     ensures { RunsAreSafe I D NID.Ord N.eq L.LeaderIdentity L.Committed.Ord }
 {}
 
-/// If a committed leader id of term 1 is none of term 0, as with both kinds of leader ids, one node
-/// is a cluster that meets the premises of the theorem.
-pub fn one_node_is_a_cluster<L: LeaderIdentity>()
-    requires { (a b : L) → L.term_of a ≡ 0 → L.term_of b ≡ 1 → L.committed b ≡ L.committed a → ⊥ }
-    ensures { OneNodeIsACluster L.LeaderIdentity }
+/// If leader ids with one committed leader id have one term, as with both kinds of leader ids, nodes
+/// that campaign are a cluster that meets the premises of the theorem.
+pub fn nodes_are_a_cluster<L: LeaderIdentity>()
+    requires one_term { (a b : L) → L.committed a ≡ L.committed b → L.term_of a ≡ L.term_of b }
+    ensures { NodesAreACluster L.LeaderIdentity }
 {}

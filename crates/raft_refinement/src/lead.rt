@@ -1,13 +1,14 @@
-//! A leader keeps rules 4 and 5 with what it proposes, counts true matches, and commits by the
-//! rule.
-ghost use Rattle.std.specs.Prelude.{◌≡◌, ◌++◌, ◌∷◌, [], Bool, IfOk, IsTrue, Some, is_some};
+//! A leader keeps rules 4 and 5 with what it proposes, sends by the rules, counts true matches, and
+//! commits by the rule.
+ghost use Rattle.std.specs.Prelude.{◌≡◌, Bool, IfOk, IfSome, IsTrue, Some, is_some};
 ghost use Rattle.std.specs.Set.{ClonesAreEqual};
 ghost use Rattle.raft_base.specs.declared.log_id.LogIdOf.{LogIdOf as LogIdRecord};
 ghost use Rattle.raft_handlers.specs.Compared.{compared};
 ghost use Rattle.raft_handlers.specs.Leadership.{entry_of, granted_by};
 ghost use Rattle.raft_handlers.specs.Responses.{answers};
 ghost use Rattle.raft_members.specs.quorum.Majority.{is_joint_majority};
-ghost use Rattle.raft_refinement.specs.Electing.{Acknowledges, HasCommitted, KnowsMatches, ProposesByRule, match_of};
+ghost use Rattle.raft_refinement.specs.Appending.{SendsByRule};
+ghost use Rattle.raft_refinement.specs.Electing.{Acknowledges, HasCommitted, KnowsMatches, ProposesOwn, match_of};
 ghost use Rattle.raft_refinement.specs.Seen.{leaders_of, seen};
 ghost use Rattle.raft_refinement.specs.Server.{IsInHistory, IsInLog, Place};
 ghost use Rattle.raft_safety.specs.Events.{log_after};
@@ -15,10 +16,12 @@ ghost use Rattle.raft_safety.specs.Facts.{HasAcked, IsElected};
 ghost use Rattle.raft_safety.specs.Ranks.{IsAmong};
 ghost use Rattle.raft_state.specs.log_id_list.FullLog.{full_log};
 ghost use Rattle.raft_state.specs.log_id_list.LogReads.{last_id};
+ghost use Rattle.raft_state.specs.raft_state.Sound.{IsSound};
 ghost use Rattle.raft_state.specs.raft_state.VoteAndLog.{vote_of};
 
 use raft_base::{Instant, LeaderIdentity, LogIdOf, Node, NodeId};
 use raft_handlers::{HandlerError, Leader, Response, State};
+use raft_progress::InflightOf;
 use raft_state::EntryOf;
 
 /// Counts what is on disk of the leader's own log, as `Leader::handle_flushed` does. If the leader
@@ -88,6 +91,73 @@ pub fn takes<
     leader.handle_response(from, response)
 }
 
+/// Puts in flight what to send to a member next, as `Leader::next_request` does. A request that has
+/// the log id before what is in flight, and entries as the leader's log has them, is sent by the
+/// rules. What the leader counts stays true.
+pub fn sends<
+    NID: NodeId,
+    N: Node,
+    I: Instant,
+    L: LeaderIdentity<Id = NID, Committed = C> + Drop,
+    C: Ord + Copy + Default + Drop + 'static,
+    D,
+>(
+    leader: &mut Leader<NID, N, C>,
+    state: &State<NID, N, I, L>,
+    to: &NID,
+    max_entries: u64,
+) -> Option<InflightOf<C>>
+    ghost p: { Place L C NID D }
+    requires nodes { (x y : NID) → IsTrue (NID.eq x y) → x ≡ y }
+    requires sound { IsSound C.eq C.cmp state.now }
+    requires server { let by = compared NID.Ord N.eq L.LeaderIdentity C.Ord in
+        IsInHistory (leaders_of by) p (seen state.now) }
+    requires own { L.voted (vote_of state.now).leader_id ≡ Some p.server }
+    requires log { p.history.leader_log (L.committed (vote_of state.now).leader_id) p.server
+        ≡ log_after (p.history.events p.server) }
+    requires knows { let by = compared NID.Ord N.eq L.LeaderIdentity C.Ord in
+        KnowsMatches (leaders_of by) p (vote_of state.now).leader_id p.server
+        (λ r. match_of (entry_of NID.eq leader.old r)) }
+    ensures by_rule { let by = compared NID.Ord N.eq L.LeaderIdentity C.Ord in
+        IfSome result (SendsByRule (leaders_of by) p (vote_of state.now).leader_id
+        (full_log state.now.log_ids) state.now.committed) }
+    ensures knows { let by = compared NID.Ord N.eq L.LeaderIdentity C.Ord in
+        KnowsMatches (leaders_of by) p (vote_of state.now).leader_id p.server
+        (λ r. match_of (entry_of NID.eq leader.new r)) }
+    ensures members { leader.new.followers.membership ≡ leader.old.followers.membership }
+    ensures node { leader.new ≡ record leader.old {
+      followers = leader.new.followers;
+      last_request = leader.new.last_request;
+    } }
+{
+    leader.next_request(state, to, max_entries)
+}
+
+/// Takes what is in flight to a member as lost, as `Leader::give_up` does. What the leader counts
+/// stays true.
+///
+/// `at` has the place of the leader and its leader id.
+pub fn gives_up<
+    NID: NodeId,
+    N: Node,
+    L: LeaderIdentity<Id = NID, Committed = C> + Drop,
+    C: Ord + Copy + Default + Drop + 'static,
+    D,
+>(leader: &mut Leader<NID, N, C>, to: &NID)
+    ghost at: { Place L C NID D × L }
+    requires nodes { (x y : NID) → IsTrue (NID.eq x y) → x ≡ y }
+    requires knows { let by = compared NID.Ord N.eq L.LeaderIdentity C.Ord in
+        KnowsMatches (leaders_of by) at.0 at.1 at.0.server
+        (λ r. match_of (entry_of NID.eq leader.old r)) }
+    ensures knows { let by = compared NID.Ord N.eq L.LeaderIdentity C.Ord in
+        KnowsMatches (leaders_of by) at.0 at.1 at.0.server
+        (λ r. match_of (entry_of NID.eq leader.new r)) }
+    ensures members { leader.new.followers.membership ≡ leader.old.followers.membership }
+    ensures node { leader.new ≡ record leader.old { followers = leader.new.followers } }
+{
+    leader.give_up(to);
+}
+
 /// Commits, as `Leader::commit` does: what is new is committed by the rule, if the leader counts
 /// true matches by the config in effect in its log.
 pub fn commits<
@@ -141,11 +211,7 @@ pub fn proposes_blank<
     requires in_use { IsAmong (L.committed (vote_of state.old).leader_id) p.terms }
     requires started { IsTrue (is_some (last_id (full_log state.old.log_ids))) }
     ensures by_rule { let by = compared NID.Ord N.eq L.LeaderIdentity C.Ord in
-        IfOk result (λ _. (content : E)
-        → p.history.leader_log (L.committed (vote_of state.old).leader_id) p.server
-        ≡ log_after (p.history.events p.server)
-        ++ (record { term = L.committed (vote_of state.old).leader_id; content = content }) ∷ []
-        → ProposesByRule (leaders_of by) p (vote_of state.old).leader_id
+        IfOk result (λ _. ProposesOwn (leaders_of by) p (vote_of state.old).leader_id
         (p.history.events p.server) (seen state.new)) }
 {
     leader.propose_blank(state)
@@ -174,11 +240,7 @@ pub fn proposes<
     requires in_use { IsAmong (L.committed (vote_of state.old).leader_id) p.terms }
     requires started { IsTrue (is_some (last_id (full_log state.old.log_ids))) }
     ensures by_rule { let by = compared NID.Ord N.eq L.LeaderIdentity C.Ord in
-        IfOk result (λ _. (content : E)
-        → p.history.leader_log (L.committed (vote_of state.old).leader_id) p.server
-        ≡ log_after (p.history.events p.server)
-        ++ (record { term = L.committed (vote_of state.old).leader_id; content = content }) ∷ []
-        → ProposesByRule (leaders_of by) p (vote_of state.old).leader_id
+        IfOk result (λ _. ProposesOwn (leaders_of by) p (vote_of state.old).leader_id
         (p.history.events p.server) (seen state.new)) }
 {
     leader.propose(state, data)

@@ -1,12 +1,13 @@
 //! The steps of servers keep Raft's rules.
 //!
 //! `laws` has the theorem: every run of servers that change their states only by the handlers is
-//! safe. `vote`, `follow`, `campaign` and `lead` have calls of the handlers, whose contracts say
-//! which rule each keeps.
+//! safe. `vote`, `follow`, `campaign`, `lead` and `restart` have calls of the handlers, whose
+//! contracts say which rule each keeps.
 #![tactic(auto)]
 
 pub mod campaign;
 pub mod follow;
 pub mod laws;
 pub mod lead;
+pub mod restart;
 pub mod vote;

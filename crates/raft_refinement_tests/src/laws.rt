@@ -2,7 +2,7 @@
 ghost use Rattle.raft_refinement.specs.Running.{RunsAreSafe};
 
 use raft_base::{EmptyNode, Instant, LeaderId, LeaderIdentity, Node, NodeId, leader_id_std};
-use raft_refinement::laws::{one_node_is_a_cluster, runs_are_safe};
+use raft_refinement::laws::{nodes_are_a_cluster, runs_are_safe};
 
 /// What an engine over a type of leader ids may rely on.
 pub fn engine_is_safe<NID: NodeId, N: Node, I: Instant, L: LeaderIdentity<Id = NID>, D>()
@@ -13,13 +13,13 @@ pub fn engine_is_safe<NID: NodeId, N: Node, I: Instant, L: LeaderIdentity<Id = N
 
 /// Leader ids of a term and a node, as they are by default.
 pub fn default_ids_are_safe() {
-    one_node_is_a_cluster::<LeaderId<u64>>();
+    nodes_are_a_cluster::<LeaderId<u64>>();
     engine_is_safe::<u64, EmptyNode, u64, LeaderId<u64>, u64>();
 }
 
 /// Leader ids of standard Raft.
 pub fn standard_ids_are_safe() {
-    one_node_is_a_cluster::<leader_id_std::LeaderId<u64>>();
+    nodes_are_a_cluster::<leader_id_std::LeaderId<u64>>();
     engine_is_safe::<u64, EmptyNode, u64, leader_id_std::LeaderId<u64>, u64>();
 }
 

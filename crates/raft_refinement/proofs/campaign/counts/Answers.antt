@@ -5,7 +5,7 @@ use Rattle.raft_handlers.specs.Campaign.{has_vote_of}
 use Rattle.raft_safety.specs.Facts.{HasVoted}
 use Rattle.raft_refinement.specs.Electing.{KnowsVotes}
 use Rattle.raft_refinement.specs.Server.{Leaders}
-use Rattle.raft_refinement.proofs.WrapperLemmas.{counted_votes}
+use Rattle.raft_refinement.proofs.WrapperLemmas.{count_members, count_rest, counted_votes}
 use Rattle.raft_refinement.proofs.campaign.counts.Goals as goal
 
 pub returns : goal.returns
@@ -48,4 +48,8 @@ returns g c =
       knows = counted_votes ids g.N.PartialEq.eq kind logs g.p (assumption (c.requires)) (assumption (c.requires)) c.args.candidate.now
           c.handle_vote_response.new.self c.args.from.now c.args.response.now knows is_true c.handle_vote_response.ensures.counted
           c.handle_vote_response.ensures.ignored;
+      members = count_members g.NID.PartialEq.eq c.args.candidate.now c.handle_vote_response.new.self c.args.from.now _
+          c.handle_vote_response.ensures.counted c.handle_vote_response.ensures.ignored;
+      rest = count_rest g.NID.PartialEq.eq c.args.candidate.now c.handle_vote_response.new.self c.args.from.now _
+          c.handle_vote_response.ensures.counted c.handle_vote_response.ensures.ignored;
     }
