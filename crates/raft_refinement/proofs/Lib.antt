@@ -15,4 +15,5 @@ pub mod WrapperLemmas
 pub mod MatchingLemmas
 pub mod SendingLemmas
 pub mod RestartLemmas
+pub mod CalledLemmas
 pub mod ProposingLemmas

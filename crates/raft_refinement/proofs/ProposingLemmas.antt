@@ -2,8 +2,6 @@
 use Rattle.std.specs.Prelude.{
   ◌≡◌,
   ◌⊎◌,
-  ◌<◌,
-  ◌≤◌,
   ◌+◌,
   ◌==◌,
   ℕ,
@@ -40,7 +38,7 @@ use Rattle.raft_handlers.specs.Leadership.{Leadership}
 use Rattle.raft_handlers.specs.Proposals.{AppendsOwn}
 use Rattle.raft_handlers.specs.declared.error.HandlerError.{HandlerError}
 use Rattle.raft_progress.specs.progress.Comparisons.{OrdMembers}
-use Rattle.raft_safety.specs.Events.{Ack, Append, Event, log_after, term_after}
+use Rattle.raft_safety.specs.Events.{Ack, Append, Event, log_after}
 use Rattle.raft_safety.specs.Facts.{IsElected}
 use Rattle.raft_safety.specs.Log.{Entry, IsPrefix}
 use Rattle.raft_safety.specs.Ranks.{IsAmong}
@@ -56,7 +54,7 @@ use Rattle.raft_state.proofs.lemmas.log_id_list.KeptLemmas.{last_of_parts}
 use Rattle.raft_state.proofs.lemmas.log_id_list.SameLogLemmas.{says_same}
 use Rattle.raft_refinement.specs.Electing.{ProposesByRule, ProposesOwn}
 use Rattle.raft_refinement.specs.Seen.{leaders_of, seen}
-use Rattle.raft_refinement.specs.Server.{IsIdAt, IsInHistory, IsInLog, IsLastId, IsServer, KnowsCommitted, Leaders, Place, State}
+use Rattle.raft_refinement.specs.Server.{IsIdAt, IsInHistory, IsInLog, IsLastId, KnowsCommitted, Leaders, Place, State}
 use Rattle.raft_refinement.proofs.PlaceLemmas.{same_logs, same_state}
 
 -- what a log has, a longer one has

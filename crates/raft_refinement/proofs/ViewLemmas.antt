@@ -112,7 +112,6 @@ use Rattle.raft_refinement.specs.Running.{
   World,
 }
 use Rattle.raft_refinement.specs.Seen.{leaders_of, seen}
-use Rattle.raft_refinement.specs.Server.{State}
 use Rattle.raft_refinement.proofs.AppendingLemmas.{index_found}
 use Rattle.raft_refinement.proofs.LawLemmas.{AreExact, Laws, are_ranked, from_map, in_terms, not_first, ranks}
 use Rattle.raft_refinement.proofs.PlaceLemmas.{beq_is, greater_leader, same_logs, same_state, same_votes, some_same}

@@ -5,3 +5,4 @@ pub mod Appending
 pub mod Electing
 pub mod Disk
 pub mod Running
+pub mod Called

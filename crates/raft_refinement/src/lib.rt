@@ -10,4 +10,5 @@ pub mod follow;
 pub mod laws;
 pub mod lead;
 pub mod restart;
+pub mod step;
 pub mod vote;
