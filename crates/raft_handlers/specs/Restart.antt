@@ -19,6 +19,7 @@ use Rattle.raft_handlers.specs.Entries.{
   TakeTests,
 }
 use Rattle.raft_handlers.specs.declared.error.HandlerError.{HandlerError}
+use Rattle.raft_handlers.specs.declared.restart.Stored.{Stored}
 use Rattle.raft_members.specs.membership.Members.{same_members}
 use Rattle.raft_members.specs.membership.Stored.{log_id_of, membership_of}
 use Rattle.raft_members.specs.declared.membership.stored.StoredMembershipOf.{StoredMembershipOf}
@@ -34,6 +35,15 @@ use Rattle.raft_state.specs.raft_state.Install.{is_not_past}
 use Rattle.raft_state.specs.declared.entry.EntryOf.{EntryOf}
 use Rattle.raft_state.specs.declared.raft_state.RaftStateIn.{RaftStateIn}
 use Rattle.raft_state.specs.declared.snapshot_meta.SnapshotMetaOf.{SnapshotMetaOf}
+
+-- the disk of a server that has never run: a default vote, no snapshot, no entry, nothing committed
+pub record IsEmptyDisk {L C K N D : Type 0} (IsDefaultLeader : L → Type 0) (disk : Stored L C K N D)
+    : Type 0 where
+  pub vote : (leader : L) × IsDefaultLeader leader
+      × (disk.vote ≡ record { leader_id = leader; committed = false })
+  pub snapshot : IsNoSnapshot disk.snapshot
+  pub entries : disk.entries.items ≡ []
+  pub committed : disk.committed ≡ None
 
 -- the log ids of a log that begins with a snapshot: the snapshot's last one, if there is a snapshot
 abbrev pub snapshot_ids : {C : Type 0} → Option (LogIdOf C) → List (LogIdOf C)

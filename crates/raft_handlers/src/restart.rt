@@ -1,5 +1,5 @@
 //! A restart: the state of a server from what its disk has.
-ghost use Rattle.std.specs.Prelude.{◌≡◌, ◌≤◌, None, IfErr, IfOk, IsTrue, OnOk, drop, length};
+ghost use Rattle.std.specs.Prelude.{◌≡◌, ◌≤◌, None, IfErr, IfOk, IsOkAnd, IsTrue, OnOk, drop, length};
 ghost use Rattle.std.specs.Set.{ClonesAreEqual};
 ghost use Rattle.raft_handlers.specs.Entries.{tests_hold, RefusedUnless};
 ghost use Rattle.raft_handlers.specs.Restart.{entries_past, snapshot_fits, CommitsKnown, HasNotRun, HasSnapshotAlone, IsRestartRefusal, Restores};
@@ -27,6 +27,25 @@ pub struct Stored<L, C, NID: NodeId, N: Node, D> {
     pub entries: Vec<EntryOf<C, NID, N, D>>,
     /// The last log id that is known to be committed, as that of the last entry that was applied.
     pub committed: Option<LogIdOf<C>>,
+}
+
+impl<L: Default, C: Copy, NID: NodeId, N: Node, D> Stored<L, C, NID, N, D> {
+    ghost use Rattle.raft_handlers.specs.Restart.{IsEmptyDisk};
+
+    /// Returns the disk of a server that has never run: the vote of term 0, no snapshot, no entry,
+    /// and nothing committed. It replaces `Default`, which has no allocator. It never allocates, so
+    /// the result is always `Ok`.
+    pub fn try_default(alloc: Global) -> Result<Self, AllocError>
+        ensures empty { IsOkAnd result (IsEmptyDisk L.is_default) }
+    {
+        let snapshot = SnapshotMetaOf::try_default(alloc)?;
+        Ok(Stored {
+            vote: VoteIn::default(),
+            snapshot,
+            entries: Vec::new(alloc),
+            committed: None,
+        })
+    }
 }
 
 /// Restarts a server: returns the state that its disk tells. Its log is the snapshot and the

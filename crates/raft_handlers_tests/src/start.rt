@@ -52,6 +52,20 @@ fn a_cluster_starts_once(rt: HostRuntime) -> Result<(), Fail> {
     Ok(())
 }
 
+/// Whether a server whose disk has nothing starts a cluster, once.
+fn starts_from_nothing<K: LeaderKind<u64>>(alloc: Global) -> Result<bool, HandlerError> {
+    let disk = StoredOf::<K>::try_default(alloc)?;
+    let mut state = restart_server(alloc, &disk)?;
+    starts_once::<K>(&mut state, alloc)
+}
+
+#[test]
+fn a_new_server_has_an_empty_disk(rt: HostRuntime) -> Result<(), Fail> {
+    assert!(rt; starts_from_nothing::<LeaderAdv>(rt.alloc()) == Ok(true));
+    assert!(rt; starts_from_nothing::<LeaderStd>(rt.alloc()) == Ok(true));
+    Ok(())
+}
+
 /// A membership of node 1 whose only config has no voter, or that has no config.
 fn no_voter(alloc: Global, has_config: bool) -> Result<Membership<u64, EmptyNode>, AllocError> {
     let nodes: BTreeMap<u64, EmptyNode> = (1..=1).map(|id| (id, EmptyNode::new())).collect(alloc)?;
