@@ -1,27 +1,25 @@
 #![tactic(auto)]
 //! Three Raft servers in one process, over the steps of `raft_handlers`: they elect a leader, lose
-//! it, restart it from its disk, and change the members. `Server` is an engine to start yours from,
-//! and the functions below it are its network, in which a message is a call. Left out are timers,
-//! snapshots, clients, lost messages, and the greatest term that a server has heard of.
+//! it, restart it from its disk, and change the members. `Server` is an engine to start yours from;
+//! in the network below it a message is a call. Left out are timers, snapshots, clients, lost
+//! messages, and the greatest term that a server has heard of.
 
 use anyhow::{Context, Result, bail, ensure};
 use raft_base::leader_id_std::{CommittedLeaderId, LeaderId};
-use raft_base::{EmptyNode, LogIdOf, LogIdRangeOf, LogStateReader, VoteIn};
+use raft_base::{EmptyNode, LogIdOf, LogIdRangeOf, LogStateReader};
 use raft_handlers::{
     AppendEntries, Candidate, Leader, Outcome, Response, State, Stored, handle_append_entries,
     handle_vote_request, restart_server, start_cluster,
 };
 use raft_members::{ChangeMembers, Membership};
 use raft_progress::InflightOf;
-use raft_state::{EntryOf, EntryPayload, SnapshotMetaOf};
+use raft_state::{EntryOf, EntryPayload};
 use std::alloc::Global;
 use std::collections::BTreeMap;
 
 type LogEntry = EntryOf<CommittedLeaderId, u64, EmptyNode, u64>;
 
 type Request = AppendEntries<LeaderId<u64>, CommittedLeaderId, u64, EmptyNode, u64>;
-
-type Reply = Response<LeaderId<u64>, CommittedLeaderId>;
 
 /// A server, whose state machine adds numbers. A crash leaves the disk and the sum.
 #[derive(Drop)]
@@ -36,8 +34,7 @@ impl Server {
     /// Ends a step, before the server sends or answers: writes the vote, a truncation and the new
     /// entries to disk, and flushes them. A leader then counts what its disk has, and commits what
     /// a quorum has; it stops if it has promised a higher vote or is removed. What is committed is
-    /// applied. The sum and `committed` are one write, because a crash in between would apply
-    /// entries twice.
+    /// applied, in one write with `committed`, because a crash in between would apply it twice.
     fn finish(&mut self, truncated_from: Option<u64>, new: &[LogEntry]) -> Result<()> {
         let (state, disk) = (&mut self.state, &mut self.disk);
         disk.vote = *state.vote_ref();
@@ -45,15 +42,11 @@ impl Server {
             disk.entries.truncate(index as usize);
         }
         let before = end(state.last_log_id().copied()).checked_sub(new.len());
-        ensure!(
-            before == Some(disk.entries.len()),
-            "the disk lacks entries of the log"
-        );
+        ensure!(before == Some(disk.entries.len()), "the disk lacks entries");
         disk.entries.extend_with_clones(new)?;
-        let flushed = disk.entries.last().map(|entry| entry.log_id);
         self.leader.take_if(|leader| !leader.leads(state));
         if let Some(leader) = &mut self.leader {
-            leader.handle_flushed(state, flushed)?;
+            leader.handle_flushed(state, disk.entries.last().map(|entry| entry.log_id))?;
             leader.commit(state)?;
         }
         self.leader.take_if(|leader| leader.is_removed(state));
@@ -75,11 +68,10 @@ impl Server {
     }
 
     /// Handles a leader's request, and writes to disk what it has changed.
-    fn follow(&mut self, request: &Request) -> Result<Reply> {
+    fn follow(&mut self, request: &Request) -> Result<Response<LeaderId<u64>, CommittedLeaderId>> {
         let (response, changes) = handle_append_entries(&mut self.state, request)?;
         let known = request.entries.len().saturating_sub(changes.new);
-        let (_, new) = request.entries.split_at(known);
-        self.finish(changes.truncated_from, new)?;
+        self.finish(changes.truncated_from, request.entries.split_at(known).1)?;
         Ok(response)
     }
 
@@ -108,12 +100,7 @@ fn end(last: Option<LogIdOf<CommittedLeaderId>>) -> usize {
 fn start(alloc: Global) -> Result<BTreeMap<u64, Server>> {
     let mut servers = BTreeMap::new(alloc);
     for id in 1..=3 {
-        let disk = Stored {
-            vote: VoteIn::default(),
-            snapshot: SnapshotMetaOf::try_default(alloc)?,
-            entries: Vec::new(alloc),
-            committed: None,
-        };
+        let disk = Stored::try_default(alloc)?;
         let server = Server {
             state: restart_server(alloc, &disk)?,
             leader: None,
@@ -169,25 +156,20 @@ fn next_request(server: &mut Server, to: u64) -> Result<Request> {
     })
 }
 
-/// A turn of the leader's loop: it sends to a follower, takes the response, and commits.
-fn send(servers: &mut BTreeMap<u64, Server>, id: u64, follower: u64) -> Result<()> {
-    let request = next_request(at(servers, id)?, follower)?;
-    let response = at(servers, follower)?.follow(&request)?;
-    let server = at(servers, id)?;
-    if let Outcome::HigherVote(vote) = response.outcome {
-        server.state.promise(vote);
-    }
-    if let Some(leader) = &mut server.leader {
-        // A response that is late or comes twice is refused, and changes nothing.
-        let _refused = leader.handle_response(&follower, &response);
-    }
-    server.finish(None, &[])
-}
-
-/// The leader's loop, with these followers.
+/// The leader's loop: it sends to each of these followers in turn, takes the response, and commits.
 fn replicate(servers: &mut BTreeMap<u64, Server>, id: u64, followers: &[u64]) -> Result<()> {
     for &follower in followers {
-        send(servers, id, follower)?;
+        let request = next_request(at(servers, id)?, follower)?;
+        let response = at(servers, follower)?.follow(&request)?;
+        let server = at(servers, id)?;
+        if let Outcome::HigherVote(vote) = response.outcome {
+            server.state.promise(vote);
+        }
+        if let Some(leader) = &mut server.leader {
+            // A response that is late or comes twice is refused, and changes nothing.
+            let _refused = leader.handle_response(&follower, &response);
+        }
+        server.finish(None, &[])?;
     }
     Ok(())
 }
@@ -208,26 +190,30 @@ fn show(servers: &BTreeMap<u64, Server>, rt: &HostRuntime, event: &str) -> Resul
 }
 
 fn main(rt: HostRuntime) -> Result<()> {
-    let mut servers = start(rt.alloc())?;
-    elect(&mut servers, 1, 2)?;
-    at(&mut servers, 1)?.add(5)?;
-    replicate(&mut servers, 1, &[2, 3, 2, 3])?;
-    show(&servers, &rt, "1 is elected, and commits 5")?;
-    at(&mut servers, 1)?.add(7)?;
-    elect(&mut servers, 2, 3)?;
-    at(&mut servers, 2)?.add(20)?;
-    replicate(&mut servers, 2, &[3, 3])?;
-    show(&servers, &rt, "1 appends 7 and crashes; 2 commits 20")?;
-    at(&mut servers, 1)?.restart()?;
-    replicate(&mut servers, 2, &[1])?;
-    show(&servers, &rt, "1 restarts, follows 2, and truncates 7")?;
-    at(&mut servers, 2)?.change(&[1, 3])?;
-    replicate(&mut servers, 2, &[1, 3])?;
-    show(&servers, &rt, "2 commits a joint membership")?;
-    at(&mut servers, 2)?.change(&[1, 3])?;
-    replicate(&mut servers, 2, &[1, 3])?;
-    show(&servers, &rt, "2 commits that of 1 and 3, and stops")?;
-    elect(&mut servers, 3, 1)?;
-    replicate(&mut servers, 3, &[1, 1])?;
-    show(&servers, &rt, "3 is elected by 1, and commits")
+    run(&mut start(rt.alloc())?, &rt)
+}
+
+/// Lets the events happen, and shows the servers after each.
+fn run(servers: &mut BTreeMap<u64, Server>, rt: &HostRuntime) -> Result<()> {
+    elect(servers, 1, 2)?;
+    at(servers, 1)?.add(5)?;
+    replicate(servers, 1, &[2, 3, 2, 3])?;
+    show(servers, rt, "1 is elected, and commits 5")?;
+    at(servers, 1)?.add(7)?;
+    elect(servers, 2, 3)?;
+    at(servers, 2)?.add(20)?;
+    replicate(servers, 2, &[3, 3])?;
+    show(servers, rt, "1 appends 7 and crashes; 2 commits 20")?;
+    at(servers, 1)?.restart()?;
+    replicate(servers, 2, &[1])?;
+    show(servers, rt, "1 restarts, follows 2, and truncates 7")?;
+    at(servers, 2)?.change(&[1, 3])?;
+    replicate(servers, 2, &[1, 3])?;
+    show(servers, rt, "2 commits a joint membership")?;
+    at(servers, 2)?.change(&[1, 3])?;
+    replicate(servers, 2, &[1, 3])?;
+    show(servers, rt, "2 commits that of 1 and 3, and stops")?;
+    elect(servers, 3, 1)?;
+    replicate(servers, 3, &[1, 1])?;
+    show(servers, rt, "3 is elected by 1, and commits")
 }
