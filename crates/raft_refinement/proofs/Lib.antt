@@ -16,4 +16,5 @@ pub mod MatchingLemmas
 pub mod SendingLemmas
 pub mod RestartLemmas
 pub mod CalledLemmas
+pub mod FirstLemmas
 pub mod ProposingLemmas

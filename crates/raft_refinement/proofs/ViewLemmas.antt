@@ -925,18 +925,18 @@ module _ {K N I L C D : Type 0} {ids : OrdMembers K} (node_eq : N → N → Bool
 
   first_seen : (w : World K N I L C D) → IsFirst ids node_eq kind logs c w → IsSeenFirst (viewed ids node_eq kind logs c) (world_seen w)
   first_seen w f = record {
-    in_use = λ s. inl (ap (λ (x : VoteIn L). x.leader_id) (f.vote s));
-    no_vote = λ s. ap (λ (x : VoteIn L). kind.term_of x.leader_id) (f.vote s) ∙ is_cluster.start_term;
-    ids = f.log;
-    purged = λ s. (let z = f.purged s in omega (arith, z));
-    committed = f.committed;
+    in_use = λ s. inl (ap (λ (x : VoteIn L). x.leader_id) ((f.server s).vote));
+    no_vote = λ s. ap (λ (x : VoteIn L). kind.term_of x.leader_id) ((f.server s).vote) ∙ is_cluster.start_term;
+    ids = λ s. (f.server s).log;
+    purged = λ s. (let z = (f.server s).purged in omega (arith, z));
+    committed = λ s. (f.server s).committed;
     sent = ap seen_network f.nothing_sent;
   }
 
   first_holds : (w : World K N I L C D) → IsFirst ids node_eq kind logs c w → Holds w
   first_holds w f = record {
-    sound = f.sound;
-    keys = f.keys;
+    sound = λ s. (f.server s).sound;
+    keys = λ s. (f.server s).keys;
     campaign = λ s x at. absurd (none_there x (sym (f.no_campaign s) ∙ at));
   }
     where

@@ -90,6 +90,17 @@ NodesAreACluster {K} {L} kind =
     (configs : List (List K)) (start : L) (campaigns : List (ℕ × K)) → 0 < length configs
     → kind.term_of start ≡ 0 → IsCluster kind (cluster_of kind configs start campaigns)
 
+-- a new server has not voted, and its log has at most the entry at index 0
+pub record IsNewServer {K N I L C : Type 0} (kind : LeaderMembers L K C) (logs : OrdMembers C) (start : L)
+    (s : RaftStateIn K N I L C) : Type 0 where
+  pub vote : vote_of s ≡ record { leader_id = start; committed = false }
+  pub log : (full_log s.log_ids ≡ [])
+      ⊎ (full_log s.log_ids ≡ (record { leader_id = kind.committed start; index = 0 }) ∷ [])
+  pub purged : s.purged_next ≡ 0
+  pub committed : next_index s.committed ≤ 1
+  pub sound : IsSound logs.eq logs.cmp s
+  pub keys : IsTrue (may_be_keys logs.cmp s.log_ids)
+
 module _ {K N I L C D : Type 0} (ids : OrdMembers K) (node_eq : N → N → Bool)
     (kind : LeaderMembers L K C) (logs : OrdMembers C) where
   module _ (c : Cluster K L) (s : K) (w v : World K N I L C D) where
@@ -308,16 +319,9 @@ module _ {K N I L C D : Type 0} (ids : OrdMembers K) (node_eq : N → N → Bool
     pub others : (r : K) → ids.eq server r ≡ false → v.servers r ≡ w.servers r
     pub other_campaigns : (r : K) → ids.eq server r ≡ false → v.campaigns r ≡ w.campaigns r
 
-  -- the first world: no server has voted, and a log has at most the entry at index 0
+  -- the first world: each server is new
   pub record IsFirst (c : Cluster K L) (w : World K N I L C D) : Type 0 where
-    pub vote : (s : K) → vote_of (w.servers s) ≡ record { leader_id = c.start; committed = false }
-    pub log : (s : K) → (full_log (w.servers s).log_ids ≡ [])
-        ⊎ (full_log (w.servers s).log_ids
-        ≡ (record { leader_id = kind.committed c.start; index = 0 }) ∷ [])
-    pub purged : (s : K) → (w.servers s).purged_next ≡ 0
-    pub committed : (s : K) → next_index (w.servers s).committed ≤ 1
-    pub sound : (s : K) → IsSound logs.eq logs.cmp (w.servers s)
-    pub keys : (s : K) → IsTrue (may_be_keys logs.cmp (w.servers s).log_ids)
+    pub server : (s : K) → IsNewServer kind logs c.start (w.servers s)
     pub no_campaign : (s : K) → w.campaigns s ≡ None
     pub nothing_sent : w.network ≡ []
 
