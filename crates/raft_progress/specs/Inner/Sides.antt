@@ -7,6 +7,7 @@ use Rattle.std.proofs.Common.{get_or}
 use Rattle.raft_members.specs.quorum.Majority.{is_majority, is_voter_of}
 use Rattle.raft_members.specs.quorum.QuorumSize.{majority_size}
 use Rattle.raft_members.specs.membership.Members.{MemberList, node_at}
+use Rattle.raft_progress.specs.progress.ProgressView.{ProgressView, state}
 use Rattle.raft_progress.specs.declared.progress.sides.Side.{Side}
 use Rattle.raft_progress.specs.declared.progress.sides.Sides.{Sides}
 
@@ -31,6 +32,14 @@ pub record AreSidesOf {K : Type 0} (eq : K → K → Bool) (has_quorum : (K → 
   pub second : IsSideOf eq second_config ids sides.second
   pub decides : (set : K → Bool)
       → has_quorum set ≡ (is_majority eq first_config set && is_majority eq second_config set)
+
+-- the sides of a progress by any ascending list of its ids
+abbrev pub AreSidesOfProgress : {ID V P QS : Type 0} → (ID → ID → Bool) → (ID → ID → Ordering)
+    → (QS → (ID → Bool) → Bool) → ProgressView ID V P QS → Sides → Type 0
+AreSidesOfProgress {ID} eq cmp has_quorum p sides =
+    (ids : List ID) → IsStrictlySortedBy cmp ids
+    → ((x : ID) → is_member eq ids x ≡ is_some ((state eq p).value x))
+    → AreSidesOf eq (has_quorum p.quorum_set) ids sides
 
 -- a list of the voters and the ids with a node, ascending
 pub record AreKnownIds {K N : Type 0} (eq : K → K → Bool) (cmp : K → K → Ordering) (m : MemberList K N)

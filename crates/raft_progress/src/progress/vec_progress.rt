@@ -312,13 +312,8 @@ impl<ID: Copy + Ord, V: ProgressPart<P>, P: Copy + Ord, QS: QuorumSet<ID>> Progr
     where
         V: Clone,
     {
-        let alloc = self.allocator();
-        let mut made = VecProgress::new(alloc, quorum_set, learners, default)?;
-        made.go_on_from(&self.stat);
-        for entry in &self.entries {
-            let value = entry.1.clone()?;
-            made.inherit(&entry.0, value);
-        }
+        let mut made = VecProgress::new(self.allocator(), quorum_set, learners, default)?;
+        made.take_over(self, None)?;
         Ok(made)
     }
 }

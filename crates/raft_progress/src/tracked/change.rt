@@ -16,7 +16,7 @@ ghost use Rattle.raft_progress.specs.tracked.TrackedState.{AreLearners, HasConfi
 ghost use Rattle.raft_progress.specs.declared.progress.steps.Reply.TheVariants.{BelowDefault};
 
 use super::{Tracked, learners_of, sides_of};
-use crate::progress::{Progress, ProgressPart, Reply};
+use crate::progress::{Progress, ProgressPart, Reply, VecProgress};
 use raft_base::{Node, NodeId};
 use raft_members::change_members::ChangeMembers;
 use raft_members::error::ChangeMembershipError;
@@ -141,10 +141,10 @@ impl<NID: NodeId, N: Node, V: ProgressPart<P> + Clone, P: Copy + Ord> Tracked<NI
         match below {
             Some(id) => Ok(Reply::BelowDefault(id)),
             None => {
-                let upgraded = self
-                    .progress
-                    .upgrade_quorum_set(configs, learners, default)?;
+                let alloc = self.progress.allocator();
+                let mut upgraded = VecProgress::new(alloc, configs, learners, default)?;
                 let sides = sides_of(&next, &upgraded)?;
+                upgraded.take_over(&self.progress, sides.as_ref())?;
                 self.progress = upgraded;
                 self.sides = sides;
                 self.membership = next;

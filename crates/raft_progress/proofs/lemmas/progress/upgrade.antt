@@ -1,4 +1,5 @@
 pub mod BelowLemmas
 pub mod FoldLemmas
 pub mod LearnersFitLemmas
+pub mod TakeOverLemmas
 pub mod UpgradeLemmas

@@ -1,18 +1,23 @@
 //! What an upgrade inherits, and what it refuses.
-ghost use Rattle.std.specs.Prelude.{◌≡◌, ◌++◌, ℕ, IfOk, List, None};
+ghost use Rattle.std.specs.Prelude.{◌≡◌, ◌++◌, ℕ, IfOk, List, None, OnOk, Some};
 ghost use Rattle.std.specs.Option.{ForSome};
 ghost use Rattle.raft_progress.specs.Inner.Conditions.{IsLeastPassing, is_value_below};
+ghost use Rattle.raft_progress.specs.Inner.Settled.{HasVotersOfSet};
+ghost use Rattle.raft_progress.specs.Inner.Sides.{AreSidesOfProgress};
+ghost use Rattle.raft_progress.specs.progress.CountedValue.{AtMost};
 ghost use Rattle.raft_progress.specs.progress.InOrder.{IsInOrder};
 ghost use Rattle.raft_progress.specs.progress.ProgressView.{state};
 ghost use Rattle.raft_progress.specs.progress.Statistics.{CountsGoOn};
 ghost use Rattle.raft_progress.specs.progress.Updated.{IsNotLower, IsUpdated};
 ghost use Rattle.raft_progress.specs.progress.Upgrade.{CanUpgrade, IsLeastBelow};
+ghost use Rattle.raft_progress.specs.progress.UpgradeFold.{TakesOverEach};
 ghost use Rattle.raft_progress.specs.progress.VecProgress.{view};
 
 use super::VecProgress;
 use crate::progress::Progress;
 use crate::progress::conditions::{is_at_least, is_before};
 use crate::progress::part::ProgressPart;
+use crate::progress::sides::Sides;
 use crate::progress::stat::Stat;
 use raft_members::quorum::QuorumSet;
 use std::alloc::AllocError;
@@ -40,15 +45,51 @@ impl<ID: Copy + Ord, V: ProgressPart<P>, P: Copy + Ord, QS: QuorumSet<ID>> VecPr
         };
     }
 
+    /// Takes over the counts of another progress, and its values one after another, or returns an
+    /// allocation error. An id that is unknown here is passed over. `sides` are those of two configs
+    /// whose majorities are the quorums, if they are known.
+    pub(crate) fn take_over(&mut self, from: &Self, sides: Option<&Sides>) -> Result<(), AllocError>
+    where
+        V: Clone,
+        requires given_in_order { IsInOrder ID.eq P.cmp V.part_of QS.has_quorum (view from.now) }
+        requires ordered { IsInOrder ID.eq P.cmp V.part_of QS.has_quorum (view self.old) }
+        requires clones_have_the_part { (v w : V) → V.is_clone v w → V.part_of w ≡ V.part_of v }
+        requires none_falls { (x : ID) (v w : V) → (state ID.eq (view from.now)).value x ≡ Some v →
+            (state ID.eq (view self.old)).value x ≡ Some w →
+            AtMost P.cmp (V.part_of w) (V.part_of v) }
+        requires voters { HasVotersOfSet ID.eq QS.is_voter (view self.old) }
+        requires sides { ForSome sides (λ s.
+            AreSidesOfProgress ID.eq ID.cmp QS.has_quorum (view self.old) s.now) }
+        ensures ordered { OnOk result
+            (IsInOrder ID.eq P.cmp V.part_of QS.has_quorum (view self.new)) }
+        ensures takes_over { OnOk result
+            (TakesOverEach ID.eq ID.cmp P.cmp V.part_of V.is_clone QS.has_quorum QS.is_voter
+            (view from.now).entries (record (view self.old) { stat = (view from.now).stat })
+            (view self.new)) }
+        ensures counts { (voters : ℕ) →
+            CountsGoOn 0 voters (view from.now).stat (view from.now).stat }
+    {
+        self.go_on_from(&from.stat);
+        for entry in &from.entries {
+            let value = entry.1.clone()?;
+            self.inherit(&entry.0, value, sides);
+        }
+        Ok(())
+    }
+
     /// Writes the value of an id, if the id is known.
-    pub(super) fn inherit(&mut self, id: &ID, value: V)
+    // Each voter is one of the quorum set, so voters are counted.
+    fn inherit(&mut self, id: &ID, value: V, sides: Option<&Sides>)
         requires ordered { IsInOrder ID.eq P.cmp V.part_of QS.has_quorum (view self.old) }
         requires monotone { IsNotLower ID.eq P.cmp V.part_of (view self.old) id.now value }
+        requires voters { HasVotersOfSet ID.eq QS.is_voter (view self.old) }
+        requires sides { ForSome sides (λ s.
+            AreSidesOfProgress ID.eq ID.cmp QS.has_quorum (view self.old) s.now) }
         ensures updated { IsUpdated ID.eq P.cmp V.part_of (λ v w. w ≡ value)
             (view self.old) id.now (view self.new) }
         ensures ordered { IsInOrder ID.eq P.cmp V.part_of QS.has_quorum (view self.new) }
     {
-        self.apply(id, |current| *current = value);
+        let _reply = self.write(id, value, true, sides);
     }
 
     /// Returns the least id whose value an upgrade would inherit and whose part is below the new

@@ -27,10 +27,10 @@ module _ {ID V P QS : Type 0} (eq : ID → ID → Bool) (cmp : P → P → Order
 
 module _ {ID V P QS : Type 0} (eq : ID → ID → Bool) (id_cmp : ID → ID → Ordering) (cmp : P → P → Ordering) (part : V → P)
     (IsClone : V → V → Type 0) (has_quorum : QS → (ID → Bool) → Bool) (is_voter : QS → ID → Bool) where
-  abbrev Each : List (ID × V) → ProgressView ID V P QS → ProgressView ID V P QS → Type 0
+  abbrev pub Each : List (ID × V) → ProgressView ID V P QS → ProgressView ID V P QS → Type 0
   Each = TakesOverEach eq id_cmp cmp part IsClone has_quorum is_voter
 
-  each_more : (es : List (ID × V)) (first old new : ProgressView ID V P QS) (e : ID × V) → Each es first old
+  pub each_more : (es : List (ID × V)) (first old new : ProgressView ID V P QS) (e : ID × V) → Each es first old
       → IsUpdated eq cmp part (λ v w. IsClone e.1 w) old e.0 new → IsInOrder eq cmp part has_quorum new → Each (es ++ e ∷ []) first new
   each_more [] first old new e same u r =
       (new, subst (λ (s : ProgressView ID V P QS). IsUpdated eq cmp part (λ v w. IsClone e.1 w) s e.0 new) same u, r, refl)

@@ -28,7 +28,7 @@ module _ {ID V : Type 0} {eq : ID → ID → Bool} (laws : IsEquivalence eq) whe
   not_seen (e ∷ es) (suc k) d l h = rw (laws.symm (get_or es k d).0 e.0 ∙ key_apart (λ y. eq e.0 y ≡ false) es k d (omega arith) h.0)
       (not_seen es k d (omega arith) h.1)
 
-lookup_other : {ID V : Type 0} (test : ID → Bool) (xs : List (ID × V)) (e : ID × V) → test e.0 ≡ false
+pub lookup_other : {ID V : Type 0} (test : ID → Bool) (xs : List (ID × V)) (e : ID × V) → test e.0 ≡ false
     → lookup test (xs ++ e ∷ []) ≡ lookup test xs
 lookup_other test [] e h = rw h refl
 lookup_other test (x ∷ xs) e h = ap (λ r. cond (test x.0) (Some x.1) r) (lookup_other test xs e h)
@@ -57,18 +57,7 @@ module _ {ID V P QS : Type 0} {eq : ID → ID → Bool} (laws : IsEquivalence eq
       by [] = refl
       by (y ∷ ys) = rw (sym (laws.congr e.0 x y.0 h), by ys) refl
 
-  -- the present value of a known id that was not inherited is a clone of the default
-  pub is_default : (v : V) → s.value e.0 ≡ Some v → (is_in e.0 ≡ true) × IsClone default v
-  is_default v h = by (is_in e.0) refl
-    where
-      by : (b : Bool) → is_in e.0 ≡ b → (is_in e.0 ≡ true) × IsClone default v
-      by true t =
-          let d : HasClone IsClone default (s.value e.0) =
-          subst (λ (o : Option V). Inherits IsClone default o (s.value e.0)) new_key (u.value e.0 t) in
-          let same : d.0 ≡ v = let k = d.1 in cc in
-          (t, subst (IsClone default) same d.2)
-      by false t = absurd (no_value _ _ (u.others e.0 t) h)
-
+  -- a known id has taken over the value of its entry
   pub took_over : (w : V) → IsClone e.1 w → (v : V) → s.value e.0 ≡ Some v → Writes eq s e.0 w s'
       → IsUpgraded eq IsClone part is_voter qs learners default (λ x. lookup (eq x) (seen ++ e ∷ [])) s'
   took_over w cl v h wr = record {
@@ -88,6 +77,7 @@ module _ {ID V P QS : Type 0} {eq : ID → ID → Bool} (laws : IsEquivalence eq
       oth x t true q = absurd (no_value _ _ (alike e.0 x q ∙ u.others x t) h)
       oth x t false q = wr.value x ∙ ap (λ b. cond b (Some w) (s.value x)) q ∙ u.others x t
 
+  -- an entry of an unknown id is passed over
   pub passed_over : s.value e.0 ≡ None → IsSame s s'
       → IsUpgraded eq IsClone part is_voter qs learners default (λ x. lookup (eq x) (seen ++ e ∷ [])) s'
   passed_over h same = record {
@@ -104,17 +94,6 @@ module _ {ID V P QS : Type 0} {eq : ID → ID → Bool} (laws : IsEquivalence eq
           subst (λ (o : Option V). Inherits IsClone default o (s.value x)) (seen_alike x q) (u.value x t) in
           absurd (no_value _ _ (sym (alike e.0 x q) ∙ h) d.1)
       val x t false q = rw (lookup_other (eq x) seen e (laws.symm x e.0 ∙ q), same.value x) (u.value x t)
-
-  -- one entry further
-  pub step : (w : V) → IsClone e.1 w → ((v : V) → s.value e.0 ≡ Some v → (w' : V) × (w' ≡ w) × Writes eq s e.0 w' s')
-      → (s.value e.0 ≡ None → IsSame s s') → IsUpgraded eq IsClone part is_voter qs learners default (λ x. lookup (eq x) (seen ++ e ∷ []))
-      s'
-  step w cl known unknown = by (s.value e.0) refl
-    where
-      by : (o : Option V) → s.value e.0 ≡ o
-          → IsUpgraded eq IsClone part is_voter qs learners default (λ x. lookup (eq x) (seen ++ e ∷ [])) s'
-      by None h = passed_over h (unknown h)
-      by (Some v) h = let k = known v h in took_over w cl v h (subst (λ (y : V). Writes eq s e.0 y s') k.1 k.2)
 
 -- an entry's own value
 pub own_value : {ID V : Type 0} {eq : ID → ID → Bool} (laws : IsEquivalence eq) (es : List (ID × V)) (k : ℕ) (d : ID × V) → k < length es
