@@ -1,12 +1,13 @@
 //! Quorums of a stated size.
-ghost use Rattle.std.specs.Prelude.{◌≡◌, ◌≤◌, Bool, IfOk, length};
+ghost use Rattle.std.specs.Prelude.{◌≡◌, ◌≤◌, Bool, IfOk, Some, length};
 ghost use Rattle.std.specs.List.Sorted.{IsStrictlySortedBy};
+ghost use Rattle.std.specs.Option.{ForSome};
 ghost use Rattle.std.specs.Set.{distinct_count, is_member};
 ghost use Rattle.std.proofs.lemmas.Map.Keys.{IsStrictlySortedBy-prop};
 ghost use Rattle.raft_members.specs.quorum.Majority.{has_at_least};
 ghost use Rattle.raft_members.specs.quorum.MajorityLawful.{has_at_least-superset};
 ghost use Rattle.raft_members.specs.quorum.Meeting.{RespectsEquality};
-ghost use Rattle.raft_members.specs.quorum.QuorumSize.{QuorumsHaveAtLeast};
+ghost use Rattle.raft_members.specs.quorum.QuorumSize.{QuorumsHaveAtLeast, SizeDecides};
 
 use super::quorum_set::QuorumSet;
 use super::quorum_set_impl::{exceeds, has_in_order, sorted_copies};
@@ -93,7 +94,12 @@ impl<ID: Copy + Ord> QuorumSet<ID> for AtLeast<ID> {
         self.need
     }
 
-    fn deciding_size(&self) -> Option<usize> {
+    fn deciding_size(&self) -> Option<usize>
+        ensures exact { result ≡ Some (need_of self.now) }
+        ensures decides { ForSome result (SizeDecides ID.eq
+            (has_at_least ID.eq (ids_of self.now) (need_of self.now))
+            (is_member ID.eq (ids_of self.now))) }
+    {
         Some(self.need)
     }
 

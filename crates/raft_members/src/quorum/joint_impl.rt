@@ -1,7 +1,7 @@
 //! A joint as a quorum set: a quorum is a quorum in every child.
 ghost use Rattle.std.specs.Borrow.{Bor};
 ghost use Rattle.std.specs.Fn.{AnyResult};
-ghost use Rattle.std.specs.Prelude.{◌≡◌, ◌||◌, ℕ, IfOk, OnOk};
+ghost use Rattle.std.specs.Prelude.{◌≡◌, ◌||◌, ℕ, IfOk, None, OnOk, length};
 ghost use Rattle.std.specs.List.{IsDistinct, list_any, list_all};
 ghost use Rattle.std.specs.List.Sorted.{IsStrictlySortedBy};
 ghost use Rattle.std.specs.Option.{ForSome};
@@ -35,7 +35,12 @@ impl<ID: Copy + Ord, QS: QuorumSet<ID>> QuorumSet<ID> for Joint<ID, QS, Vec<QS>>
     }
 
     #[inline(always)]
-    fn deciding_size(&self) -> Option<usize> {
+    fn deciding_size(&self) -> Option<usize>
+        ensures none { (length self.now.items ≡ 1 → ⊥) → result ≡ None }
+        ensures decides { ForSome result (SizeDecides ID.eq
+            (λ s. list_all (λ c. QS.has_quorum c s) self.now.items)
+            (λ x. list_any (λ c. QS.is_voter c x) self.now.items)) }
+    {
         deciding_size_of_one(self.children())
     }
 
@@ -65,7 +70,12 @@ impl<'a, ID: Copy + Ord, QS: QuorumSet<ID>> QuorumSet<ID> for Joint<ID, QS, &'a 
     }
 
     #[inline(always)]
-    fn deciding_size(&self) -> Option<usize> {
+    fn deciding_size(&self) -> Option<usize>
+        ensures none { (length self.now.now ≡ 1 → ⊥) → result ≡ None }
+        ensures decides { ForSome result (SizeDecides ID.eq
+            (λ s. list_all (λ c. QS.has_quorum c s) self.now.now)
+            (λ x. list_any (λ c. QS.is_voter c x) self.now.now)) }
+    {
         deciding_size_of_one(self.children())
     }
 
@@ -122,7 +132,8 @@ pub(crate) fn least_of_each<ID: Copy + Ord, QS: QuorumSet<ID>, F: Fn(&QS) -> usi
 /// Returns the size that decides for a single child, if there is one.
 #[inline(always)]
 fn deciding_size_of_one<ID: Copy + Ord, QS: QuorumSet<ID>>(children: &[QS]) -> Option<usize>
-    ensures { ForSome result (SizeDecides ID.eq
+    ensures none { (length children.now ≡ 1 → ⊥) → result ≡ None }
+    ensures decides { ForSome result (SizeDecides ID.eq
         (λ s. list_all (λ c. QS.has_quorum c s) children.now)
         (λ x. list_any (λ c. QS.is_voter c x) children.now)) }
 {

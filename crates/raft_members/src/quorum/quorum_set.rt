@@ -48,8 +48,8 @@ pub trait QuorumSet<ID: Copy + Ord>: Drop {
     /// are at least that many of them. The default body returns `None`.
     ///
     /// A caller that knows the size and counts voters need not call `is_quorum`. A list or a set of
-    /// voters and an `AtLeast` have such a size, and so has a joint of one of them. A joint of two
-    /// has none. Nothing is allocated.
+    /// voters and an `AtLeast` have such a size, and their contracts say which. A joint of one of
+    /// them has the size of its child. A joint of two has none. Nothing is allocated.
     fn deciding_size(&self) -> Option<usize>
         ensures decides { ForSome result
             (SizeDecides ID.eq (has_quorum self.now) (is_voter self.now)) }

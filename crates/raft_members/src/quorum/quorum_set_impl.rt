@@ -1,13 +1,14 @@
 //! Lists and sets of voters as quorum sets: a quorum has more than half of the voters. Shared
 //! quorum sets.
-ghost use Rattle.std.specs.Prelude.{◌≡◌, ◌*◌, ◌<◌, ◌≤◌, ◌||◌, Bool, IsTrue, IfOk, count_by, length, nat_lt};
+ghost use Rattle.std.specs.Prelude.{◌≡◌, ◌*◌, ◌<◌, ◌≤◌, ◌||◌, Bool, IsTrue, IfOk, Some, count_by, length, nat_lt};
 ghost use Rattle.std.specs.List.{IsDistinct, list_any};
+ghost use Rattle.std.specs.Option.{ForSome};
 ghost use Rattle.std.specs.Set.{is_member};
 ghost use Rattle.std.specs.Fn.{AnyResult};
 ghost use Rattle.std.specs.List.Sorted.{IsSorted, IsStrictlySortedBy};
 ghost use Rattle.raft_members.specs.quorum.Majority.{is_majority};
 ghost use Rattle.raft_members.specs.quorum.MajorityLawful.{is_majority-superset};
-ghost use Rattle.raft_members.specs.quorum.QuorumSize.{QuorumsHaveAtLeast, majority_size};
+ghost use Rattle.raft_members.specs.quorum.QuorumSize.{QuorumsHaveAtLeast, SizeDecides, majority_size};
 
 use super::quorum_set::QuorumSet;
 use std::alloc::{AllocError, Global};
@@ -47,7 +48,11 @@ impl<ID: Copy + Ord> QuorumSet<ID> for Vec<ID> {
     }
 
     #[inline(always)]
-    fn deciding_size(&self) -> Option<usize> {
+    fn deciding_size(&self) -> Option<usize>
+        ensures exact { result ≡ Some (majority_size self.now.items) }
+        ensures decides { ForSome result (SizeDecides ID.eq
+            (is_majority ID.eq self.now.items) (is_member ID.eq self.now.items)) }
+    {
         Some(self.least_quorum_size())
     }
 
@@ -78,7 +83,11 @@ impl<'a, ID: Copy + Ord> QuorumSet<ID> for &'a [ID] {
     }
 
     #[inline(always)]
-    fn deciding_size(&self) -> Option<usize> {
+    fn deciding_size(&self) -> Option<usize>
+        ensures exact { result ≡ Some (majority_size self.now.now) }
+        ensures decides { ForSome result (SizeDecides ID.eq
+            (is_majority ID.eq self.now.now) (is_member ID.eq self.now.now)) }
+    {
         Some(self.least_quorum_size())
     }
 
@@ -107,7 +116,11 @@ impl<ID: Copy + Ord> QuorumSet<ID> for BTreeSet<ID> {
     }
 
     #[inline(always)]
-    fn deciding_size(&self) -> Option<usize> {
+    fn deciding_size(&self) -> Option<usize>
+        ensures exact { result ≡ Some (majority_size self.now.keys) }
+        ensures decides { ForSome result (SizeDecides ID.eq
+            (is_majority ID.eq self.now.keys) (is_member ID.eq self.now.keys)) }
+    {
         Some(self.least_quorum_size())
     }
 

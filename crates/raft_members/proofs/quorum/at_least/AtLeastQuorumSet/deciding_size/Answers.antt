@@ -1,4 +1,4 @@
-use Rattle.std.proofs.Common.{◌≡◌, subst}
+use Rattle.std.proofs.Common.{◌≡◌, refl, subst}
 use Rattle.std.specs.Set.{is_member}
 use Rattle.raft_members.specs.quorum.Majority.{has_at_least}
 use Rattle.raft_members.specs.quorum.QuorumSize.{SizeDecides}
@@ -7,6 +7,7 @@ use Rattle.raft_members.proofs.quorum.at_least.AtLeastQuorumSet.deciding_size.Go
 
 pub returns : goal.returns
 returns g c = record {
+  exact = refl;
   decides = λ n is.
       let ids = c.args.self.now.ids.items in
       let need = c.args.self.now.need in

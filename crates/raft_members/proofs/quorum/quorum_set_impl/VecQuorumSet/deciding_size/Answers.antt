@@ -1,4 +1,4 @@
-use Rattle.std.proofs.Common.{◌≡◌, ◌∙◌, subst, sym}
+use Rattle.std.proofs.Common.{◌≡◌, ◌∙◌, Some, ap, subst, sym}
 use Rattle.std.specs.Set.{is_member}
 use Rattle.raft_members.specs.quorum.Majority.{is_majority}
 use Rattle.raft_members.specs.quorum.QuorumSize.{SizeDecides}
@@ -7,6 +7,7 @@ use Rattle.raft_members.proofs.quorum.quorum_set_impl.VecQuorumSet.deciding_size
 
 pub returns : goal.returns
 returns g c = record {
+  exact = ap Some c.least_quorum_size.ensures.exact;
   decides = λ n is.
       let same : c.least_quorum_size.result ≡ n = cc in
       let eq = g.ID.PartialEq.eq in
