@@ -2,7 +2,7 @@
 
 use crate::support::asserts::assert_made;
 use crate::support::quorums::has_ids;
-use raft_members::quorum::QuorumSet;
+use raft_members::quorum::{AtLeast, QuorumSet};
 use raft_testing::facts::first_wrong;
 use raft_testing::memory::both;
 use raft_testing::words::{ids as set, list, number, words};
@@ -72,5 +72,60 @@ fn wrong_set(alloc: Global, row: &str) -> Result<Option<&'static str>, AllocErro
 fn a_quorum_is_more_than_half(rt: HostRuntime) {
     for row in ROWS.trim().lines() {
         assert_made(&rt, row, wrong_set(rt.alloc(), row));
+    }
+}
+
+/// Each row has a step and a number. A list has 307 voters, each this step after the one before it,
+/// so that it is in order only for step 1. So many of its voters are asked, and ids that are no
+/// voters. The last word says whether they are a quorum.
+const MANY: &str = "
+1 153 no
+1 154 yes
+1 307 yes
+50 153 no
+50 154 yes
+306 153 no
+306 154 yes
+";
+
+/// Returns the first `count` of the voters 100 to 406, each `step` after the one before it.
+fn voters(alloc: Global, step: u64, count: u64) -> Result<Vec<u64>, AllocError> {
+    let mut made = Vec::new(alloc);
+    for place in 0..count {
+        made.push(100 + place.wrapping_mul(step) % 307)?;
+    }
+    Ok(made)
+}
+
+/// Returns that many voters and, before and after them, ids that are no voters.
+fn asked(alloc: Global, count: u64) -> Result<Vec<u64>, AllocError> {
+    let mut made = vec![in alloc; 99, 0, 407]?;
+    made.append(&mut voters(alloc, 53, count)?)?;
+    made.push(408)?;
+    Ok(made)
+}
+
+/// Returns which quorum set of the many voters of a row is wrong.
+fn wrong_set_of_many(alloc: Global, row: &str) -> Result<Option<&'static str>, AllocError> {
+    let [step, count, answer, ..] = words(row);
+    let (list, asked) = both(
+        voters(alloc, number(step), 307),
+        asked(alloc, number(count)),
+    )?;
+    let (voters, asked) = (list.as_slice(), asked.as_slice());
+    let stated = AtLeast::new(alloc, voters, 154)?;
+    let is_quorum = answer == "yes";
+    Ok(first_wrong(&[
+        ("list", list.is_quorum(asked) == is_quorum),
+        ("slice", voters.is_quorum(asked) == is_quorum),
+        ("at least", stated.is_quorum(asked) == is_quorum),
+    ]))
+}
+
+/// A long list has the same quorums whether it is in order or not.
+#[test]
+fn many_voters_need_no_order(rt: HostRuntime) {
+    for row in MANY.trim().lines() {
+        assert_made(&rt, row, wrong_set_of_many(rt.alloc(), row));
     }
 }
