@@ -18,6 +18,8 @@ pub mod CheckedLeaderLemmas
 pub mod CheckerLemmas
 pub mod StateLemmas
 pub mod PlaceLemmas
+pub mod ContentLemmas
+pub mod LearnLemmas
 pub mod CheckerStepLemmas
 pub mod CheckerCodeLemmas
 pub mod RankLemmas

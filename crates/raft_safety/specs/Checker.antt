@@ -2,7 +2,7 @@
 use Rattle.std.specs.Prelude.{◌≡◌, ◌⊎◌, ◌<◌, ℕ, Bool, true, false, Option, Some, None, Result, List, [], ◌∷◌, length, take, get_or, is_some}
 use Rattle.std.specs.List.{list_any}
 use Rattle.std.specs.Result.{MatchResult}
-use Rattle.raft_safety.specs.Log.{Entry}
+use Rattle.raft_safety.specs.Log.{Entry, LackContent}
 use Rattle.raft_safety.specs.Trace.{
   same_entry,
   broken_rule,
@@ -22,11 +22,17 @@ use Rattle.raft_safety.specs.Trace.{
 }
 use Rattle.raft_safety.specs.Inner.CheckerState.{LeaderState, ServerState, config_in, knows}
 use Rattle.raft_safety.specs.Inner.Kept.{HaveLogs, Parts, leaders_in, servers_in}
-use Rattle.raft_safety.specs.Inner.Logs.{AreLogs}
+use Rattle.raft_safety.specs.Inner.Logs.{AreLogs, AreWithout}
 use Rattle.raft_safety.specs.Inner.Places.{ArePlaced}
 use Rattle.raft_safety.specs.Inner.Seen.{SeesServers, SeesLeaders}
 use Rattle.raft_safety.specs.declared.checker.violation.Violation.{Violation}
 use Rattle.raft_safety.specs.declared.checker.violation.Violation.TheVariants.{OutOfMemory, Rule as BreaksRule}
+use Rattle.raft_safety.specs.declared.checker.learn.LearnError.{LearnError}
+use Rattle.raft_safety.specs.declared.checker.learn.LearnError.TheVariants.{
+  Known,
+  Recorded,
+  OutOfMemory as LearnOutOfMemory,
+}
 use Rattle.raft_safety.specs.declared.checker.Checker.{Checker}
 use Rattle.raft_safety.specs.declared.event.Event.{Event as RecordedEvent}
 use Rattle.raft_safety.specs.declared.event.Event.TheVariants.{
@@ -44,6 +50,13 @@ use Rattle.raft_safety.specs.declared.checker.configs.Configs as config_ghosts
 use Rattle.raft_safety.specs.declared.rule.Rule.{Rule}
 use Rattle.raft_safety.specs.declared.rule.Rule.TheVariants.{InitialConfig}
 
+-- no entry that an event names has this content
+abbrev pub IsUnused : {T ID D : Type 0} → (D → D → Bool) → D → List (TraceEvent T ID D) → Type 0
+IsUnused same d [] = Unit {0}
+IsUnused same d (Appended s t c n sent ∷ es) = LackContent same d sent × IsUnused same d es
+IsUnused same d (Wrote c t e ∷ es) = (same d e.content ≡ false) × IsUnused same d es
+IsUnused same d (x ∷ es) = IsUnused same d es
+
 module _ {T ID D : Type 0} (k : Tests T ID D (Option D)) where
   -- what the checker keeps is what the events say, and each of them was allowed
   pub record HasSeen (es : List (TraceEvent T ID D)) (servers : List (ServerState T ID D))
@@ -53,11 +66,18 @@ module _ {T ID D : Type 0} (k : Tests T ID D (Option D)) where
     pub see_leaders : SeesLeaders k es leaders
     pub see_commits : (r : ℕ) (p : List (Entry T D)) → is_known_committed k r p es ≡ list_any (knows k.rank (same_entry k) r p) leaders
 
+  -- a content is in no log exactly if it is that of no entry of the events
+  abbrev pub AgreeOn : D → List (TraceEvent T ID D) → Parts T ID D → Type 0
+  AgreeOn d es p =
+      (AreWithout k.same_content p.logs d → IsUnused k.same_content d es)
+      × (IsUnused k.same_content d es → AreWithout k.same_content p.logs d)
+
   -- the same of the parts of a checker, in which each log is kept once
   pub record Keeps (es : List (TraceEvent T ID D)) (p : Parts T ID D) : Type 0 where
     pub are_logs : AreLogs (λ d. is_some (k.config_of d)) p.logs
     pub have_logs : HaveLogs p
     pub placed : ArePlaced k.rank p.places p.leaders
+    pub unused : (d : D) → AgreeOn d es p
     pub seen : HasSeen es (servers_in p) (leaders_in p)
 
 -- what the checker compares by: ranks and equality, as the types have them, and the configs, as
@@ -126,6 +146,26 @@ module _ {T ID D : Type 0} (k : Tests T ID D (Option D)) where
   Begins result =
       MatchResult result (λ c. Keeps k [] (kept_by c))
       (λ v. (k.intersect k.initial k.initial ≡ false) × (v ≡ BreaksRule InitialConfig))
+
+module _ {T ID D : Type 0} (k : Tests T ID D (Option D)) where
+  -- what a checker keeps of events that it compares by one way, it keeps of them by another
+  abbrev pub KeepsAlso : Tests T ID D (Option D) → Parts T ID D → Parts T ID D → Type 0
+  KeepsAlso next old new =
+      AreExact k → (es : List (TraceEvent T ID D)) → Keeps k es old → Keeps next es new
+
+  -- why a membership does not become known
+  abbrev pub IsUnlearned : D → List (TraceEvent T ID D) → LearnError → Type 0
+  IsUnlearned d es Known = is_some (k.config_of d) ≡ true
+  IsUnlearned d es Recorded = IsUnused k.same_content d es → ⊥
+  IsUnlearned d es LearnOutOfMemory = Unit {0}
+
+  -- a membership becomes known by this content unless one is known by it already, or an entry of the
+  -- events has the content
+  abbrev pub Learns : D → Parts T ID D → Result (Unit {0}) LearnError → Type 0
+  Learns d p result =
+      AreExact k → (es : List (TraceEvent T ID D)) → Keeps k es p
+      → MatchResult result (λ _. (is_some (k.config_of d) ≡ false) × IsUnused k.same_content d es)
+      (IsUnlearned d es)
 
 -- a trace after which recorded events come, in their order
 abbrev pub trace_after : {T ID D : Type 0} → List (TraceEvent T ID D) → List (RecordedEvent T ID D)

@@ -10,6 +10,7 @@ ghost use Rattle.raft_safety.specs.Trace.{Campaigned, Granted, Appended, Acked, 
 mod broken;
 mod configs;
 mod leader;
+mod learn;
 mod logs;
 mod node;
 mod places;
@@ -27,6 +28,7 @@ use broken::{
 };
 pub use configs::Configs;
 use leader::Leader;
+pub use learn::LearnError;
 use logs::Logs;
 use places::{Places, leader_at, note_place};
 use server::Server;

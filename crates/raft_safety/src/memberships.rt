@@ -1,5 +1,5 @@
 //! Memberships of the layer as configs of the checker.
-ghost use Rattle.std.specs.Prelude.{◌≡◌, ◌||◌, map, true};
+ghost use Rattle.std.specs.Prelude.{◌≡◌, ◌||◌, ◌++◌, ◌∷◌, [], OnErr, OnOk, map, true};
 ghost use Rattle.std.specs.List.{IsDistinct, list_any, list_all};
 ghost use Rattle.std.specs.Set.{is_member};
 ghost use Rattle.raft_members.specs.quorum.Coherence.{share_child};
@@ -11,6 +11,7 @@ ghost use Rattle.raft_safety.specs.Memberships.{configs_of, majorities_meet, mee
 use crate::checker::Configs;
 use crate::term::Term;
 use raft_members::quorum::{Coherent, Joint, QuorumSet};
+use std::alloc::AllocError;
 
 /// Memberships, each a list of configs, and a config is a list of voters.
 #[derive(Debug, Drop)]
@@ -68,6 +69,21 @@ impl<N: Copy + Ord, D: Copy + Eq> Configs<N, D> for Memberships<N, D> {
 }
 
 impl<N: Copy + Ord, D: Copy + Eq> Memberships<N, D> {
+    /// Adds the membership that entries of a content hold.
+    ///
+    /// # Errors
+    ///
+    /// Out of memory. The memberships are then as they were.
+    pub fn hold(&mut self, content: D, configs: Vec<Vec<N>>) -> Result<(), AllocError>
+        ensures held { OnOk result (self.new.held.items
+            ≡ self.old.held.items ++ (content, configs) ∷ []) }
+        ensures initial { self.new.initial ≡ self.old.initial }
+        ensures err { OnErr result (self.new.held.items ≡ self.old.held.items) }
+    {
+        self.held.push((content, configs))?;
+        Ok(())
+    }
+
     /// Returns the configs of a membership, none if no entry of the content holds one.
     fn configs_of(&self, config: Option<D>) -> &[Vec<N>]
         ensures { result.now ≡ configs_of D.eq self.now.initial.items

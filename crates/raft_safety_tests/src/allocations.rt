@@ -5,7 +5,7 @@ use crate::recorded::{
     Recorded, acked, appended, applied, campaigned, committed, granted, restarted, three, wrote,
 };
 use raft_safety::check::check;
-use raft_safety::checker::{Checker, Violation};
+use raft_safety::checker::{Checker, LearnError, Violation};
 use raft_safety::memberships::Memberships;
 use raft_safety::merge::check_each;
 use raft_testing::allocations::{Allocation, is_free_on, is_swept};
@@ -131,6 +131,22 @@ fn check_all(allocation: Allocation, has_lists: bool) -> Result<bool, AllocError
     is_allowed(allocation, refused)
 }
 
+/// Learns of a membership after the events of `history`, with an allocation refused. If memory was
+/// out, the checker has to learn of it afterwards.
+fn learn(allocation: Allocation) -> Result<bool, AllocError> {
+    let alloc = allocation.alloc;
+    let (mut checker, configs) = both(checked(alloc, &history(alloc)?), Ok(Vec::new(alloc)))?;
+    allocation.refuse();
+    match checker.learn(104, configs) {
+        Ok(()) => Ok(true),
+        Err(LearnError::OutOfMemory) => match checker.learn(104, Vec::new(alloc)) {
+            Ok(()) => Err(AllocError),
+            Err(_) => Ok(false),
+        },
+        Err(_) => allocation.made(false),
+    }
+}
+
 /// Whether the calls of the checker are right with each allocation refused in turn.
 fn is_checker_swept(rt: &impl Print, alloc: Global) -> io::Result<bool> {
     let nothing = |_alloc: Global| Ok(());
@@ -139,6 +155,8 @@ fn is_checker_swept(rt: &impl Print, alloc: Global) -> io::Result<bool> {
         let records = |allocation: Allocation, _nothing: &mut ()| record(allocation, position);
         is_right &= is_swept(rt, alloc, name, nothing, records)?;
     }
+    let learns = |allocation: Allocation, _nothing: &mut ()| learn(allocation);
+    is_right &= is_swept(rt, alloc, "Checker::learn", nothing, learns)?;
     for (name, has_lists) in [("check", false), ("check_each", true)] {
         let checks = |allocation: Allocation, _nothing: &mut ()| check_all(allocation, has_lists);
         is_right &= is_swept(rt, alloc, name, nothing, checks)?;

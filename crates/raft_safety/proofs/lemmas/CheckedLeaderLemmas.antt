@@ -53,7 +53,6 @@ use Rattle.raft_safety.specs.Trace.{
   has_acked,
   has_campaigned,
   is_elected,
-  is_config_committed,
   is_quorum_of_log,
   same_leader,
   term_in,
@@ -61,7 +60,7 @@ use Rattle.raft_safety.specs.Trace.{
   and_append,
   and_restart,
 }
-use Rattle.raft_safety.specs.Inner.Seen.{SeesLeader, SeesNoLeader, SeesLeaders, find_leader}
+use Rattle.raft_safety.specs.Inner.Seen.{committed_in, SeesLeader, SeesNoLeader, SeesLeaders, find_leader}
 use Rattle.raft_safety.specs.Inner.CheckerState.{LeaderState}
 use Rattle.raft_safety.proofs.lemmas.TestLemmas.{leader_right}
 use Rattle.raft_safety.proofs.lemmas.CheckedServerLemmas.{place_of}
@@ -144,8 +143,7 @@ module _ {T ID D : Type 0} (k : Tests T ID D (Option D)) (exact : AreExact k) wh
     pub voted : (v : ID) → has_voted k u d (events_in k new v) ≡ has_voted k u d (events_in k es v)
     pub acked : (v : ID) (n : ℕ)
         → has_acked k u d n (events_in k new v) ≡ has_acked k u d n (events_in k es v)
-    pub committed : (log : List (Entry T D))
-        → is_config_committed k u d log new ≡ is_config_committed k u d log es
+    pub committed : committed_in k new u d ≡ committed_in k es u d
 
   pub stays : (es new : List (TraceEvent T ID D)) (u : T) (d : ID) → SameFor es new u d
       → (o : Option (LeaderState T ID D)) → MatchOption o (SeesNoLeader k es u d) (SeesLeader k es u d)
@@ -156,7 +154,7 @@ module _ {T ID D : Type 0} (k : Tests T ID D (Option D)) (exact : AreExact k) wh
     leader_log = same.leader_log ∙ sees.leader_log;
     voted = λ v. same.voted v ∙ sees.voted v;
     acked = λ v n. same.acked v n ∙ sees.acked v n;
-    committed = λ log. same.committed log ∙ sees.committed log;
+    committed = same.committed ∙ sees.committed;
   }
   stays es new u d same (Some l) sees = record {
     campaigned = same.campaigned ∙ sees.campaigned;
@@ -168,7 +166,7 @@ module _ {T ID D : Type 0} (k : Tests T ID D (Option D)) (exact : AreExact k) wh
     own_vote = sees.own_vote;
     elected = elected ∙ sees.elected;
     acked = λ v n. same.acked v n ∙ sees.acked v n;
-    committed = λ log. same.committed log ∙ sees.committed log;
+    committed = same.committed ∙ sees.committed;
     within = sees.within;
   }
     where
@@ -332,7 +330,7 @@ module _ {T ID D : Type 0} (k : Tests T ID D (Option D)) (exact : AreExact k) wh
     leader_log = rw e refl;
     voted = λ v. vote_of_other (k.same_id c v) t u c d (events_in k es v) e;
     acked = λ v n. vote_no_ack (k.same_id c v) t u c d n (events_in k es v);
-    committed = λ log. refl;
+    committed = refl;
   }
 
   pub grant_to_other : (es : List (TraceEvent T ID D)) (s : ID) (t u : T) (c d : ID)
@@ -343,7 +341,7 @@ module _ {T ID D : Type 0} (k : Tests T ID D (Option D)) (exact : AreExact k) wh
     leader_log = refl;
     voted = λ v. vote_in_other (k.same_id s v) t u c d (events_in k es v) e;
     acked = λ v n. any_vote_no_ack (k.same_id s v) t u c d n (events_in k es v);
-    committed = λ log. refl;
+    committed = refl;
   }
 
   pub late_vote_same : (es : List (TraceEvent T ID D)) (s : ID) (t u : T) (c d : ID)
@@ -354,7 +352,7 @@ module _ {T ID D : Type 0} (k : Tests T ID D (Option D)) (exact : AreExact k) wh
     leader_log = refl;
     voted = λ v. no_vote v (k.same_id s v) refl;
     acked = λ v n. any_vote_no_ack (k.same_id s v) t u c d n (events_in k es v);
-    committed = λ log. refl;
+    committed = refl;
   }
     where
       no_vote : (v : ID) (b : Bool) → k.same_id s v ≡ b
@@ -373,7 +371,7 @@ module _ {T ID D : Type 0} (k : Tests T ID D (Option D)) (exact : AreExact k) wh
     leader_log = refl;
     voted = λ v. append_no_vote (k.same_id s v) t u c d n sent (events_in k es v);
     acked = λ v m. append_no_ack (k.same_id s v) t u c d n m sent (events_in k es v);
-    committed = λ log. refl;
+    committed = refl;
   }
 
   pub ack_to_other : (es : List (TraceEvent T ID D)) (s : ID) (t u : T) (c d : ID) (n : ℕ)
@@ -384,7 +382,7 @@ module _ {T ID D : Type 0} (k : Tests T ID D (Option D)) (exact : AreExact k) wh
     leader_log = refl;
     voted = λ v. ack_no_vote (k.same_id s v) t u c d n (events_in k es v);
     acked = λ v m. ack_of_other (k.same_id s v) t u c d n m (events_in k es v) e;
-    committed = λ log. refl;
+    committed = refl;
   }
 
   pub restart_same : (es : List (TraceEvent T ID D)) (s : ID) (u : T) (d : ID) (n : ℕ)
@@ -395,7 +393,7 @@ module _ {T ID D : Type 0} (k : Tests T ID D (Option D)) (exact : AreExact k) wh
     leader_log = refl;
     voted = λ v. restart_no_vote (k.same_id s v) u d n (events_in k es v);
     acked = λ v m. restart_no_ack (k.same_id s v) u d n m (events_in k es v);
-    committed = λ log. refl;
+    committed = refl;
   }
 
   pub write_of_other : (es : List (TraceEvent T ID D)) (t u : T) (c d : ID) (x : Entry T D)
@@ -406,7 +404,7 @@ module _ {T ID D : Type 0} (k : Tests T ID D (Option D)) (exact : AreExact k) wh
     leader_log = rw e refl;
     voted = λ v. refl;
     acked = λ v m. refl;
-    committed = λ log. refl;
+    committed = refl;
   }
 
   pub commit_of_other : (es : List (TraceEvent T ID D)) (t u : T) (c d : ID) (n m : ℕ)
@@ -417,7 +415,7 @@ module _ {T ID D : Type 0} (k : Tests T ID D (Option D)) (exact : AreExact k) wh
     leader_log = refl;
     voted = λ v. refl;
     acked = λ v m. refl;
-    committed = λ log. rw e refl;
+    committed = rw e refl;
   }
 
   pub apply_same : (es : List (TraceEvent T ID D)) (s : ID) (t u : T) (c d : ID) (n : ℕ)
@@ -428,5 +426,5 @@ module _ {T ID D : Type 0} (k : Tests T ID D (Option D)) (exact : AreExact k) wh
     leader_log = refl;
     voted = λ v. refl;
     acked = λ v m. refl;
-    committed = λ log. refl;
+    committed = refl;
   }

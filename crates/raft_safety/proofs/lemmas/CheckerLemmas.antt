@@ -130,7 +130,17 @@ use Rattle.raft_safety.specs.Inner.CheckerState.{
   apply_rule,
 }
 use Rattle.raft_safety.specs.Checker.{HasSeen}
-use Rattle.raft_safety.specs.Inner.Seen.{SeesServer, kept_at, SeesServers, SeesLeader, SeesNoLeader, SeesLeaders, find_server, find_leader}
+use Rattle.raft_safety.specs.Inner.Seen.{
+  SeesServer,
+  committed_in,
+  kept_at,
+  SeesServers,
+  SeesLeader,
+  SeesNoLeader,
+  SeesLeaders,
+  find_server,
+  find_leader,
+}
 use Rattle.raft_safety.proofs.lemmas.RuleLemmas.{first_none, rest_none, first_two}
 use Rattle.raft_safety.specs.declared.rule.Rule.{Rule}
 use Rattle.raft_safety.specs.Inner.CheckerState.{ServerState}
@@ -564,7 +574,7 @@ module _ {T ID D : Type 0} (k : Tests T ID D (Option D)) (exact : AreExact k) wh
                 (λ v. ack_no_vote k exact (k.same_id id v) t t c c n (events_in k es v) q))
                 ∙ at_l.elected ∙ sym same.elected;
             acked = λ v m. counted v m (k.same_id id v) refl ∙ sym (acked v m);
-            committed = λ x. at_l.committed x ∙ sym (ap (λ y. config_committed (hold_no_config k) y x) same.committed);
+            committed = at_l.committed ∙ sym same.committed;
             within = rw (same.committed, same.log) at_l.within;
           });
       see_commits = λ r p. seen.see_commits r p ∙ sym (any_set_or (knows k.rank (same_entry k) r p) false leaders j lnew l
@@ -657,7 +667,7 @@ module _ {T ID D : Type 0} (k : Tests T ID D (Option D)) (exact : AreExact k) wh
                     ∙ sym elected;
                 acked = λ v m. any_vote_no_ack k exact (k.same_id id v) t t c c m (events_in k es v) ∙ at_l.acked v m
                     ∙ sym (ap (λ x. has_acked_to k.same_id x v m) acked);
-                committed = λ x. at_l.committed x ∙ sym (ap (λ y. config_committed (hold_no_config k) y x) same.committed);
+                committed = at_l.committed ∙ sym same.committed;
                 within = rw (same.committed, same.log) at_l.within;
               });
           see_commits = λ r p. seen.see_commits r p ∙ sym (any_set_or (knows k.rank (same_entry k) r p) false leaders j lnew l
@@ -796,7 +806,7 @@ module _ {T ID D : Type 0} (k : Tests T ID D (Option D)) (exact : AreExact k) wh
                 ∙ sym elected;
             acked = λ v m. vote_no_ack k exact (k.same_id c v) t t c c m (events_in k es v) ∙ none.acked v m
                 ∙ sym (ap (λ x. has_acked_to k.same_id x v m) acked);
-            committed = λ x. none.committed x ∙ sym (ap (λ y. config_committed (hold_no_config k) y x) same.committed);
+            committed = none.committed ∙ sym same.committed;
             within = rw same.committed tt;
           });
       see_commits = λ r p. seen.see_commits r p
@@ -846,6 +856,61 @@ module _ {T ID D : Type 0} (k : Tests T ID D (Option D)) (exact : AreExact k) wh
           (λ q. nat_le (k.rank lnew.term) r && has_committed (same_entry k) lnew.log (same.committed q) p)
           ∙ and_right (nat_le (k.rank lnew.term) r) false refl
 
+  -- ---- what a leader has committed
+
+  -- none of the entries after more first ones holds a config if none after fewer does
+  fewer_configs : (log : List (Entry T D)) (n m : ℕ) → n ≤ m → hold_no_config k (drop n log) ≡ true
+      → hold_no_config k (drop m log) ≡ true
+  fewer_configs [] n zero h e = refl
+  fewer_configs [] n (suc m) h e = refl
+  fewer_configs (x ∷ log) zero zero h e = e
+  fewer_configs (x ∷ log) zero (suc m) h e =
+      fewer_configs log zero m (omega arith) (second_so (is_none (k.config_of x.content)) (hold_no_config k log) e)
+  fewer_configs (x ∷ log) (suc n) zero h e = absurd (omega arith)
+  fewer_configs (x ∷ log) (suc n) (suc m) h e = fewer_configs log n m (omega arith) e
+
+  -- a test that more passes where fewer passes, at the greater of two numbers
+  at_max : (test : ℕ → Bool) → ((n m : ℕ) → n ≤ m → test n ≡ true → test m ≡ true) → (a n : ℕ)
+      → test (max a n) ≡ (test n || test a)
+  at_max test up a n = go (cases_lt a n)
+    where
+      both : (x y : Bool) → (y ≡ true → x ≡ true) → x ≡ (x || y)
+      both true y h = refl
+      both false true h = h refl
+      both false false h = refl
+
+      go : (a < n) ⊎ (n ≤ a) → test (max a n) ≡ (test n || test a)
+      go (inl h) =
+          let e : max a n ≡ n = omega arith in
+          ap test e ∙ both (test n) (test a) (up a n (omega arith))
+      go (inr h) =
+          let e : max a n ≡ a = omega arith in
+          ap test e ∙ both (test a) (test n) (up n a h) ∙ or_turn (test a) (test n)
+
+  -- a leader has committed all configs of a log exactly if its greatest commit has
+  configs_committed : (es : List (TraceEvent T ID D)) (u : T) (d : ID) (log : List (Entry T D))
+      → is_config_committed k u d log es ≡ config_committed (hold_no_config k) (committed_in k es u d) log
+  configs_committed [] u d log = refl
+  configs_committed (Campaigned c t ∷ es) u d log = configs_committed es u d log
+  configs_committed (Granted s t c ∷ es) u d log = configs_committed es u d log
+  configs_committed (Appended s t c n sent ∷ es) u d log = configs_committed es u d log
+  configs_committed (Acked s t c n ∷ es) u d log = configs_committed es u d log
+  configs_committed (Restarted s n ∷ es) u d log = configs_committed es u d log
+  configs_committed (Wrote c t e ∷ es) u d log = configs_committed es u d log
+  configs_committed (Committed c t n m ∷ es) u d log =
+      ap (λ b. (same_leader k t c u d && hold_no_config k (drop n log)) || b) (configs_committed es u d log)
+      ∙ go (same_leader k t c u d) (committed_in k es u d)
+    where
+      go : (b : Bool) (o : Option ℕ)
+          → ((b && hold_no_config k (drop n log)) || config_committed (hold_no_config k) o log)
+          ≡ config_committed (hold_no_config k) (if b then Some (max (unwrap_or o 0) n) else o) log
+      go true None =
+          let e : n ≡ max 0 n = omega arith in
+          or_no (hold_no_config k (drop n log)) ∙ ap (λ i. hold_no_config k (drop i log)) e
+      go true (Some a) = sym (at_max (λ i. hold_no_config k (drop i log)) (λ i j h. fewer_configs log i j h) a n)
+      go false o = refl
+  configs_committed (Applied s t c n ∷ es) u d log = configs_committed es u d log
+
   -- ---- entries that a leader writes
 
   pub not_elected : (es : List (TraceEvent T ID D)) (t : T) (c : ID) → SeesNoLeader k es t c
@@ -886,8 +951,8 @@ module _ {T ID D : Type 0} (k : Tests T ID D (Option D)) (exact : AreExact k) wh
       committed : is_config_committed k t c (leader_log_in k es t c) es
           ≡ config_committed (no_config_in holds) l.committed l.log
       committed =
-          leads.committed (leader_log_in k es t c)
-          ∙ ap (λ x. config_committed (hold_no_config k) l.committed x) leads.leader_log
+          configs_committed es t c (leader_log_in k es t c)
+          ∙ (λ q. config_committed (hold_no_config k) (leads.committed q) (leads.leader_log q))
           ∙ tested l.committed l.log
 
       go : (b : Bool) → proposal_rule k es t c (if b then Some (Some e.content) else None)
@@ -932,7 +997,7 @@ module _ {T ID D : Type 0} (k : Tests T ID D (Option D)) (exact : AreExact k) wh
             own_vote = rw same.voters at_l.own_vote;
             elected = at_l.elected ∙ sym same.elected;
             acked = λ v m. at_l.acked v m ∙ sym (ap (λ x. has_acked_to k.same_id x v m) acked);
-            committed = λ x. at_l.committed x ∙ sym (ap (λ y. config_committed (hold_no_config k) y x) same.committed);
+            committed = at_l.committed ∙ sym same.committed;
             within = rw (same.committed, same.log) (within l.committed at_l.within);
           });
       see_commits = λ r p. seen.see_commits r p ∙ sym (any_set_or (knows k.rank (same_entry k) r p) false leaders j lnew l
@@ -1051,35 +1116,6 @@ module _ {T ID D : Type 0} (k : Tests T ID D (Option D)) (exact : AreExact k) wh
       (first_so (same_entry k x y) (is_prefix k p (take n log)) e)
       (longer_prefix p log n m (omega arith) (second_so (same_entry k x y) (is_prefix k p (take n log)) e))
 
-  -- none of the entries after more first ones holds a config if none after fewer does
-  fewer_configs : (log : List (Entry T D)) (n m : ℕ) → n ≤ m → hold_no_config k (drop n log) ≡ true
-      → hold_no_config k (drop m log) ≡ true
-  fewer_configs [] n zero h e = refl
-  fewer_configs [] n (suc m) h e = refl
-  fewer_configs (x ∷ log) zero zero h e = e
-  fewer_configs (x ∷ log) zero (suc m) h e =
-      fewer_configs log zero m (omega arith) (second_so (is_none (k.config_of x.content)) (hold_no_config k log) e)
-  fewer_configs (x ∷ log) (suc n) zero h e = absurd (omega arith)
-  fewer_configs (x ∷ log) (suc n) (suc m) h e = fewer_configs log n m (omega arith) e
-
-  -- a test that more passes where fewer passes, at the greater of two numbers
-  at_max : (test : ℕ → Bool) → ((n m : ℕ) → n ≤ m → test n ≡ true → test m ≡ true) → (a n : ℕ)
-      → test (max a n) ≡ (test n || test a)
-  at_max test up a n = go (cases_lt a n)
-    where
-      both : (x y : Bool) → (y ≡ true → x ≡ true) → x ≡ (x || y)
-      both true y h = refl
-      both false true h = h refl
-      both false false h = refl
-
-      go : (a < n) ⊎ (n ≤ a) → test (max a n) ≡ (test n || test a)
-      go (inl h) =
-          let e : max a n ≡ n = omega arith in
-          ap test e ∙ both (test n) (test a) (up a n (omega arith))
-      go (inr h) =
-          let e : max a n ≡ a = omega arith in
-          ap test e ∙ both (test a) (test n) (up n a h) ∙ or_turn (test a) (test n)
-
   pub commit_seen : (es : List (TraceEvent T ID D)) (t : T) (c : ID) (n m : ℕ)
       (servers : List (ServerState T ID D)) (leaders : List (LeaderState T ID D)) (j : ℕ) (l lnew : LeaderState T ID D)
       → position (λ (x : LeaderState T ID D). same_leader k x.term x.id t c) leaders ≡ Some j
@@ -1109,9 +1145,7 @@ module _ {T ID D : Type 0} (k : Tests T ID D (Option D)) (exact : AreExact k) wh
             own_vote = rw same.voters at_l.own_vote;
             elected = at_l.elected ∙ sym same.elected;
             acked = λ v i. at_l.acked v i ∙ sym (ap (λ x. has_acked_to k.same_id x v i) acked);
-            committed = λ x. rw me (ap (λ b. hold_no_config k (drop n x) || b) (at_l.committed x)
-                ∙ sym (configs x l.committed)
-                ∙ sym (ap (λ y. config_committed (hold_no_config k) y x) same.committed));
+            committed = rw me (ap (λ o. Some (max (unwrap_or o 0) n)) at_l.committed ∙ sym same.committed);
             within = rw (same.committed, same.log) (reach l.committed at_l.within);
           });
       see_commits = λ r p.
@@ -1144,14 +1178,6 @@ module _ {T ID D : Type 0} (k : Tests T ID D (Option D)) (exact : AreExact k) wh
           → max (unwrap_or o 0) n ≤ length l.log
       reach None h = omega arith
       reach (Some i) h = omega arith
-
-      configs : (x : List (Entry T D)) (o : Option ℕ)
-          → hold_no_config k (drop (max (unwrap_or o 0) n) x)
-          ≡ (hold_no_config k (drop n x) || config_committed (hold_no_config k) o x)
-      configs x None =
-          let e : max 0 n ≡ n = omega arith in
-          ap (λ i. hold_no_config k (drop i x)) e ∙ sym (or_no (hold_no_config k (drop n x)))
-      configs x (Some a) = at_max (λ i. hold_no_config k (drop i x)) (λ i u h. fewer_configs x i u h) a n
 
       prefixes : (p : List (Entry T D)) (o : Option ℕ)
           → nat_eq (common_len (same_entry k) p (take (max (unwrap_or o 0) n) l.log)) (length p)

@@ -55,7 +55,7 @@ use Rattle.std.proofs.lemmas.List.{
   map-set,
 }
 use Rattle.std.proofs.lemmas.List.Quantifiers.{position-Some}
-use Rattle.raft_safety.specs.Log.{Entry}
+use Rattle.raft_safety.specs.Log.{Entry, LackContent}
 use Rattle.raft_safety.specs.Configs.{effective_config}
 use Rattle.raft_safety.specs.Trace.{
   AreExact,
@@ -108,10 +108,10 @@ use Rattle.raft_safety.specs.Inner.Kept.{
   server_in,
   servers_in,
 }
-use Rattle.raft_safety.specs.Inner.Logs.{AllLogs, AreLogs, HasConfig, IsChild, IsExact, config_at, log_at, no_logs}
+use Rattle.raft_safety.specs.Inner.Logs.{AllLogs, AreLogs, AreWithout, HasConfig, IsChild, IsExact, config_at, log_at, no_logs}
 use Rattle.raft_safety.specs.Inner.Places.{first_of, place_of}
 use Rattle.raft_safety.specs.Inner.Seen.{SeesServer, SeesLeader}
-use Rattle.raft_safety.specs.Checker.{HasSeen, Keeps}
+use Rattle.raft_safety.specs.Checker.{AgreeOn, HasSeen, Keeps}
 use Rattle.raft_safety.specs.declared.rule.Rule.TheVariants.{
   NoCampaign,
   NotElected,
@@ -129,6 +129,7 @@ use Rattle.raft_safety.specs.declared.checker.leader.Leader.{Leader}
 use Rattle.raft_safety.proofs.lemmas.TestLemmas.{entry_itself, entry_right}
 use Rattle.raft_safety.proofs.lemmas.CheckedLeaderLemmas.{found_some}
 use Rattle.raft_safety.proofs.lemmas.PlaceLemmas.{placed_more, placed_set}
+use Rattle.raft_safety.proofs.lemmas.ContentLemmas.{lack_append, lack_second}
 use Rattle.raft_safety.proofs.lemmas.CheckerLemmas.{
   LeaderIs,
   ack_right,
@@ -323,6 +324,10 @@ module _ {D : Type 0} (holds : D → Bool) (T : Type 0) where
   }
 
 module _ {T ID D : Type 0} (k : Tests T ID D (Option D)) where
+  no_entry : (d : D) (i : ℕ) → LackContent k.same_content d (log_at (no_logs {T = T} {D = D}) i)
+  no_entry d zero = tt
+  no_entry d (suc i) = tt
+
   pub starts : k.intersect k.initial k.initial ≡ true → Keeps k [] (record { logs = no_logs; servers = []; leaders = []; places = [] })
   starts intersect = record {
     are_logs = no_logs_are (λ d. is_some (k.config_of d)) T;
@@ -331,6 +336,7 @@ module _ {T ID D : Type 0} (k : Tests T ID D (Option D)) where
       of_leaders = λ i l h e. absurd (omega (arith, h));
     };
     placed = λ i l h e. absurd (omega (arith, h));
+    unused = λ d. (λ without. tt, λ u i h. no_entry d i);
     seen = record {
       allowed = intersect;
       see_servers = λ id. refl;
@@ -340,7 +346,7 @@ module _ {T ID D : Type 0} (k : Tests T ID D (Option D)) where
         leader_log = refl;
         voted = λ v. refl;
         acked = λ v n. refl;
-        committed = λ log. refl;
+        committed = refl;
       };
       see_commits = λ r p. refl;
     };
@@ -422,6 +428,7 @@ module _ {T ID D : Type 0} (k : Tests T ID D (Option D)) (exact : AreExact k) wh
     are_logs = keeps.are_logs;
     have_logs = have_at p id new i keeps.are_logs.some keeps.have_logs at;
     placed = keeps.placed;
+    unused = keeps.unused;
     seen = see_place k exact es id (servers_in p) (map (server_in p.logs) new) i (leaders_in p)
         (at_place p id new i keeps.are_logs.empty at) keeps.seen;
   }
@@ -458,11 +465,13 @@ module _ {T ID D : Type 0} (k : Tests T ID D (Option D)) (exact : AreExact k) wh
   keeps_server : (es : List (TraceEvent T ID D)) (p : Parts T ID D) (i : ℕ) (new : Server ID)
       → i < length p.servers → new.log < length p.logs.logs
       → HasSeen k es (set (servers_in p) i (server_in p.logs new)) (leaders_in p)
+      → ((d : D) → AgreeOn k d es p)
       → (old : List (TraceEvent T ID D)) → Keeps k old p → Keeps k es (with_server p i new)
-  keeps_server es p i new at within seen old keeps = record {
+  keeps_server es p i new at within seen unused old keeps = record {
     are_logs = keeps.are_logs;
     have_logs = have_server p i new keeps.have_logs at within;
     placed = keeps.placed;
+    unused = unused;
     seen = subst (λ (l : List (ServerState T ID D)). HasSeen k es l (leaders_in p))
         (sym (map-set (server_in p.logs) p.servers i new)) seen;
   }
@@ -470,11 +479,13 @@ module _ {T ID D : Type 0} (k : Tests T ID D (Option D)) (exact : AreExact k) wh
   keeps_leader : (es : List (TraceEvent T ID D)) (p : Parts T ID D) (j : ℕ) (l new : Leader T ID)
       → j < length p.leaders → l ≡ get_or p.leaders j l → new.term ≡ l.term → new.log < length p.logs.logs
       → HasSeen k es (servers_in p) (set (leaders_in p) j (leader_in p.logs new))
+      → ((d : D) → AgreeOn k d es p)
       → (old : List (TraceEvent T ID D)) → Keeps k old p → Keeps k es (with_leader p j new)
-  keeps_leader es p j l new at is same within seen old keeps = record {
+  keeps_leader es p j l new at is same within seen unused old keeps = record {
     are_logs = keeps.are_logs;
     have_logs = have_leader p j new keeps.have_logs at within;
     placed = placed_set k.rank p.places p.leaders j l new at is same keeps.placed;
+    unused = unused;
     seen = subst (λ (l : List (LeaderState T ID D)). HasSeen k es (servers_in p) l)
         (sym (map-set (leader_in p.logs) p.leaders j new)) seen;
   }
@@ -504,7 +515,7 @@ module _ {T ID D : Type 0} (k : Tests T ID D (Option D)) (exact : AreExact k) wh
       (subst (λ (x : Server ID). restart_rule (server_in p.logs x) n ≡ None) one free)
       (ap (λ (x : Server ID). x.id) rest) term (ap (λ (x : Server ID). x.voted) rest)
       (ap (log_at p.logs) new_log ∙ is_log) (ap (λ (x : Server ID). x.durable) rest) kept in
-      (done.0, keeps_server (Restarted id n ∷ es) p i new within (omega (arith, old_log, earlier, new_log)) done.1 es keeps)
+      (done.0, keeps_server (Restarted id n ∷ es) p i new within (omega (arith, old_log, earlier, new_log)) done.1 keeps.unused es keeps)
 
   pub restart_refused : (es : List (TraceEvent T ID D)) (id : ID) (p : Parts T ID D) (i n : ℕ)
       (s : Server ID) (r : Rule) → position (is_server id) p.servers ≡ Some i
@@ -564,7 +575,18 @@ module _ {T ID D : Type 0} (k : Tests T ID D (Option D)) (exact : AreExact k) wh
       (ap (λ (x : Server ID). x.durable) rest ∙ ap (λ m. min s.durable m) is_same)
       (λ r. kept r
       ∙ ap (λ m. min (kept_after s.terms.kept s.terms.term (length (log_at p.logs s.log)) (k.rank t) r) m) is_same) in
-      (done.0, keeps_server (Appended id t c n sent ∷ es) p i new within (rw new_log (go earlier within within_j)) done.1 es keeps)
+      let short : log < length p.logs.logs = go earlier within within_j in (
+        done.0,
+        keeps_server (Appended id t c n sent ∷ es) p i new within (rw new_log short) done.1
+            (λ d. (
+              λ without. (
+                lack_second k.same_content d (take n (log_at p.logs s.log)) sent
+                    (subst (LackContent k.same_content d) (is_log now) (without log short)),
+                (keeps.unused d).0 without,
+              ),
+              λ none. (keeps.unused d).1 none.1,
+            )) es keeps,
+      )
     where
       go : (log ≤ s.log) ⊎ (log ≤ l.log) → i < length p.servers → j < length p.leaders
           → log < length p.logs.logs
@@ -632,7 +654,7 @@ module _ {T ID D : Type 0} (k : Tests T ID D (Option D)) (exact : AreExact k) wh
   same_server es p id i s new at is keeps rest =
       keeps_server es p i new within
       (rw (ap (λ (x : Server ID). x.log) rest) (log_of_server es p i s keeps within is))
-      (subst (λ (x : List (ServerState T ID D)). HasSeen k es x (leaders_in p)) (sym back) keeps.seen) es keeps
+      (subst (λ (x : List (ServerState T ID D)). HasSeen k es x (leaders_in p)) (sym back) keeps.seen) keeps.unused es keeps
     where
       within : i < length p.servers
       within = within_of (is_server id) p.servers i s at
@@ -653,7 +675,7 @@ module _ {T ID D : Type 0} (k : Tests T ID D (Option D)) (exact : AreExact k) wh
       → new.log ≡ l.log → Keeps k es (with_leader p j new)
   same_leader_again es p t c j l new at is keeps acked same log =
       keeps_leader es p j l new within is same.term (rw log (keeps.have_logs.of_leaders j l within is))
-      (subst (λ (x : List (LeaderState T ID D)). HasSeen k es (servers_in p) x) (sym back) keeps.seen) es keeps
+      (subst (λ (x : List (LeaderState T ID D)). HasSeen k es (servers_in p) x) (sym back) keeps.seen) keeps.unused es keeps
     where
       within : j < length p.leaders
       within = within_of (is_leader t c) p.leaders j l at
@@ -733,10 +755,12 @@ module _ {T ID D : Type 0} (k : Tests T ID D (Option D)) (exact : AreExact k) wh
       → i < length p.servers → j < length p.leaders → l ≡ get_or p.leaders j l → lnew.term ≡ l.term
       → new.log < length p.logs.logs → lnew.log < length p.logs.logs
       → HasSeen k es (set (servers_in p) i (server_in p.logs new)) (set (leaders_in p) j (leader_in p.logs lnew))
+      → ((d : D) → AgreeOn k d es p)
       → (old : List (TraceEvent T ID D)) → Keeps k old p → Keeps k es (with_leader (with_server p i new) j lnew)
-  keeps_both es p i j new l lnew at at_j is same within within_j seen old keeps = record {
+  keeps_both es p i j new l lnew at at_j is same within within_j seen unused old keeps = record {
     are_logs = keeps.are_logs;
     placed = placed_set k.rank p.places p.leaders j l lnew at_j is same keeps.placed;
+    unused = unused;
     have_logs = have_leader (with_server p i new) j lnew (have_server p i new keeps.have_logs at within) at_j within_j;
     seen = subst (λ (x : List (LeaderState T ID D)). HasSeen k es (servers_in (with_server p i new)) x)
         (sym (map-set (leader_in p.logs) p.leaders j lnew))
@@ -777,7 +801,7 @@ module _ {T ID D : Type 0} (k : Tests T ID D (Option D)) (exact : AreExact k) wh
         keeps_both (Acked id t c n ∷ es) p i j new l lnew within within_j is_l (ap (λ (x : Leader T ID). x.term) same)
             (rw (ap (λ (x : Server ID). x.log) rest) (keeps.have_logs.of_servers i s within is))
             (rw (ap (λ (x : Leader T ID). x.log) same) (keeps.have_logs.of_leaders j l within_j is_l))
-            done.1 es keeps,
+            done.1 keeps.unused es keeps,
       )
 
   -- ---- votes
@@ -845,7 +869,7 @@ module _ {T ID D : Type 0} (k : Tests T ID D (Option D)) (exact : AreExact k) wh
         keeps_both (Granted id t c ∷ es) p i j new l lnew within within_j is_l (ap (λ (x : Leader T ID). x.term) same)
             (rw reached.log (keeps.have_logs.of_servers i s within is))
             (rw (ap (λ (x : Leader T ID). x.log) same) (keeps.have_logs.of_leaders j l within_j is_l))
-            done.1 es keeps,
+            done.1 keeps.unused es keeps,
       )
 
   pub late_vote_done : (es : List (TraceEvent T ID D)) (id : ID) (t : T) (c : ID)
@@ -869,7 +893,7 @@ module _ {T ID D : Type 0} (k : Tests T ID D (Option D)) (exact : AreExact k) wh
       (ap (λ (x : Server ID). x.durable) rest) (ap (λ (x : Server ID). x.terms.kept) rest) in (
         done.0,
         keeps_server (Granted id t c ∷ es) p i new within
-            (rw (ap (λ (x : Server ID). x.log) rest) (keeps.have_logs.of_servers i s within is)) done.1 es keeps,
+            (rw (ap (λ (x : Server ID). x.log) rest) (keeps.have_logs.of_servers i s within is)) done.1 keeps.unused es keeps,
       )
 
   -- ---- campaigns
@@ -951,6 +975,7 @@ module _ {T ID D : Type 0} (k : Tests T ID D (Option D)) (exact : AreExact k) wh
           are_logs = keeps.are_logs;
           have_logs = record { of_servers = have.of_servers; of_leaders = have.of_leaders };
           placed = placed_more k.rank p.places places p.leaders lnew (k.rank t) (ap k.rank same.term) here others keeps.placed;
+          unused = keeps.unused;
           seen = subst (λ (x : List (ServerState T ID D)). HasSeen k (Campaigned c t ∷ es) x (leader_in p.logs lnew ∷ leaders_in p))
               (sym (map-set (server_in p.logs) p.servers i new)) done.1;
         },
@@ -1017,6 +1042,15 @@ module _ {T ID D : Type 0} (k : Tests T ID D (Option D)) (exact : AreExact k) wh
           are_logs = child.logs;
           have_logs = have_leader grown j lnew have within_j (rw is_log child.within);
           placed = placed_set k.rank p.places p.leaders j l lnew within_j is_l (ap (λ (x : Leader T ID). x.term) rest) keeps.placed;
+          unused = λ d. (
+            λ without. (
+              (lack_second k.same_content d (log_at p.logs l1.log) (e ∷ [])
+                  (subst (LackContent k.same_content d) child.is (without log child.within))).0,
+              (keeps.unused d).0 (λ i h. subst (LackContent k.same_content d) (child.kept i h)
+                  (without i (omega (arith, h, child.more)))),
+            ),
+            λ none i h. lack_in d none.0 ((keeps.unused d).1 none.1) i (child.only i h),
+          );
           seen = subst (λ (x : List (LeaderState T ID D)). HasSeen k (Wrote c t e ∷ es) (map (server_in logs) p.servers) x)
               (ap (λ (x : List (LeaderState T ID D)). set x j (leader_in logs lnew)) (sym same_l)
               ∙ sym (map-set (leader_in logs) p.leaders j lnew))
@@ -1024,6 +1058,16 @@ module _ {T ID D : Type 0} (k : Tests T ID D (Option D)) (exact : AreExact k) wh
               (sym same_s) done.1);
         },
       )
+    where
+      lack_in : (d : D) → k.same_content d e.content ≡ false → AreWithout k.same_content p.logs d → (i : ℕ)
+          → (i < length p.logs.logs) ⊎ (log_at logs i ≡ log_at p.logs l1.log ++ e ∷ [])
+          → LackContent k.same_content d (log_at logs i)
+      lack_in d apart without i (inl h) = subst (LackContent k.same_content d) (sym (child.kept i h)) (without i h)
+      lack_in d apart without i (inr h) =
+          subst (LackContent k.same_content d) (sym h)
+          (lack_append k.same_content d (log_at p.logs l1.log) (e ∷ [])
+          (without l1.log
+          (keeps.have_logs.of_leaders j l1 (within_of (is_leader t c) p.leaders j l1 at_j) is_l1)) (apart, tt))
 
   -- ---- commits
 
@@ -1131,7 +1175,7 @@ module _ {T ID D : Type 0} (k : Tests T ID D (Option D)) (exact : AreExact k) wh
       }) in (
         done.0,
         keeps_leader (Committed c t n m ∷ es) p j l3 lnew within is3 (ap (λ (x : Leader T ID). x.term) rest)
-            (rw (ap (λ (x : Leader T ID). x.log) rest) (keeps.have_logs.of_leaders j l3 within is3)) done.1 es keeps,
+            (rw (ap (λ (x : Leader T ID). x.log) rest) (keeps.have_logs.of_leaders j l3 within is3)) done.1 keeps.unused es keeps,
       )
 
   -- ---- what is applied
@@ -1215,6 +1259,7 @@ module _ {T ID D : Type 0} (k : Tests T ID D (Option D)) (exact : AreExact k) wh
           are_logs = keeps.are_logs;
           have_logs = keeps.have_logs;
           placed = keeps.placed;
+          unused = keeps.unused;
           seen = done.1;
         },
       )

@@ -121,6 +121,7 @@ module _ {T D : Type 0} (holds : D → Bool) where
     is = is;
     more = omega arith;
     kept = λ i h. refl;
+    only = λ i h. inl h;
     logs = are;
   }
 
@@ -133,6 +134,7 @@ module _ {T D : Type 0} (holds : D → Bool) where
     is = here;
     more = omega (arith, more);
     kept = λ i h. same_log t new config i h;
+    only = λ i h. one i (cases_lt i (length t.logs)) h;
     logs = record {
       some = omega (arith, more);
       empty = same_log t new config 0 are.some ∙ are.empty;
@@ -154,6 +156,11 @@ module _ {T D : Type 0} (holds : D → Bool) where
 
       here : log_at t2 (length t.logs) ≡ new
       here = new_log t new config (length t.logs) refl
+
+      one : (i : ℕ) → (i < length t.logs) ⊎ (length t.logs ≤ i) → i < length t2.logs
+          → (i < length t.logs) ⊎ (log_at t2 i ≡ new)
+      one i (inl x) h = inl x
+      one i (inr x) h = inr (new_log t new config i (omega (arith, x, h, more)))
 
       apart : (i j : ℕ) → (i < length t.logs) ⊎ (length t.logs ≤ i)
           → (j < length t.logs) ⊎ (length t.logs ≤ j) → i < length t2.logs → j < length t2.logs

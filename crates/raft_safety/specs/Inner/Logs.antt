@@ -1,7 +1,27 @@
 -- All logs of servers and leaders, each a number. Logs that begin with the same entries share them.
-use Rattle.std.specs.Prelude.{◌≡◌, ◌<◌, ◌≤◌, ℕ, Bool, true, nat_le, Option, Some, None, List, [], ◌∷◌, ◌++◌, length, drop, get_or}
+use Rattle.std.specs.Prelude.{
+  ◌≡◌,
+  ◌⊎◌,
+  ◌<◌,
+  ◌≤◌,
+  ℕ,
+  Bool,
+  true,
+  false,
+  nat_le,
+  Option,
+  Some,
+  None,
+  List,
+  [],
+  ◌∷◌,
+  ◌++◌,
+  length,
+  drop,
+  get_or,
+}
 use Rattle.std.specs.Option.{option_or}
-use Rattle.raft_safety.specs.Log.{Entry}
+use Rattle.raft_safety.specs.Log.{Entry, LackContent}
 use Rattle.raft_safety.specs.Configs.{effective_config}
 use Rattle.raft_safety.specs.Inner.CheckerState.{config_in, no_config_in}
 
@@ -32,6 +52,11 @@ module _ {T D : Type 0} where
   last_entry [] = None
   last_entry (e ∷ es) = option_or (last_entry es) (Some e)
 
+  -- the entry has this content, if there is one
+  abbrev pub has_last : (D → D → Bool) → D → Option (Entry T D) → Bool
+  has_last same d None = false
+  has_last same d (Some e) = same d e.content
+
   -- no two logs are equal
   abbrev pub AreDistinct : AllLogs T D → Type 0
   AreDistinct t =
@@ -46,6 +71,10 @@ module _ {T D : Type 0} where
 
   abbrev pub IsTree : AllLogs T D → Type 0
   IsTree t = (log : ℕ) → 0 < log → log < length t.logs → HasParent t log
+
+  -- no log has an entry of this content
+  abbrev pub AreWithout : (D → D → Bool) → AllLogs T D → D → Type 0
+  AreWithout same t d = (i : ℕ) → i < length t.logs → LackContent same d (log_at t i)
 
   -- no log is another and one entry more
   abbrev pub HasNoChild : AllLogs T D → ℕ → Entry T D → Type 0
@@ -84,4 +113,6 @@ module _ {T D : Type 0} (holds : D → Bool) where
     pub is : log_at new child ≡ log_at old log ++ entry ∷ []
     pub more : length old.logs ≤ length new.logs
     pub kept : (i : ℕ) → i < length old.logs → log_at new i ≡ log_at old i
+    pub only : (i : ℕ) → i < length new.logs
+        → (i < length old.logs) ⊎ (log_at new i ≡ log_at old log ++ entry ∷ [])
     pub logs : AreLogs new

@@ -1,9 +1,27 @@
 -- What is kept of servers and leaders is what the events of a trace say.
-use Rattle.std.specs.Prelude.{◌≡◌, ◌<◌, ◌≤◌, ℕ, true, false, nat_le, min, if◌then◌else◌, Option, List, [], ◌∷◌, length, take}
+use Rattle.std.specs.Prelude.{
+  ◌≡◌,
+  ◌<◌,
+  ◌≤◌,
+  ℕ,
+  true,
+  false,
+  nat_le,
+  min,
+  max,
+  if◌then◌else◌,
+  Option,
+  Some,
+  None,
+  List,
+  [],
+  ◌∷◌,
+  length,
+  take,
+}
 use Rattle.std.specs.List.{find, IsDistinct}
-use Rattle.std.specs.Option.{MatchOption}
+use Rattle.std.specs.Option.{MatchOption, unwrap_or}
 use Rattle.std.specs.Set.{is_member}
-use Rattle.raft_safety.specs.Log.{Entry}
 use Rattle.raft_safety.specs.Events.{Event, term_after, voted_after, log_after}
 use Rattle.raft_safety.specs.Trace.{
   same_entry,
@@ -17,11 +35,10 @@ use Rattle.raft_safety.specs.Trace.{
   durable,
   has_campaigned,
   is_elected,
-  is_config_committed,
-  hold_no_config,
+  Committed,
   same_leader,
 }
-use Rattle.raft_safety.specs.Inner.CheckerState.{kept_from, has_acked_to, config_committed, common_len}
+use Rattle.raft_safety.specs.Inner.CheckerState.{kept_from, has_acked_to, common_len}
 use Rattle.raft_safety.specs.Inner.CheckerState.{ServerState}
 use Rattle.raft_safety.specs.Inner.CheckerState.{LeaderState}
 
@@ -32,6 +49,13 @@ module _ {T ID D M : Type 0} (k : Tests T ID D M) where
   kept_at r (e ∷ es) =
       if nat_le (term_after k.rank (e ∷ es)) r then length (log_after (e ∷ es))
       else min (kept_at r es) (common_len (same_entry k) (log_after es) (log_after (e ∷ es)))
+
+  -- the greatest number of first entries that the leader of this term has committed, if it has any
+  abbrev pub committed_in : List (TraceEvent T ID D) → T → ID → Option ℕ
+  committed_in [] u d = None
+  committed_in (Committed c t n m ∷ es) u d =
+      if same_leader k t c u d then Some (max (unwrap_or (committed_in es u d) 0) n) else committed_in es u d
+  committed_in (x ∷ es) u d = committed_in es u d
 
 module _ {T ID D : Type 0} (k : Tests T ID D (Option D)) where
   -- what is kept of a server is what its events say
@@ -63,7 +87,7 @@ module _ {T ID D : Type 0} (k : Tests T ID D (Option D)) where
     pub own_vote : is_member k.same_id l.voters c ≡ true
     pub elected : is_elected k es t c ≡ l.elected
     pub acked : (v : ID) (n : ℕ) → has_acked k t c n (events_in k es v) ≡ has_acked_to k.same_id l.acked v n
-    pub committed : (log : List (Entry T D)) → is_config_committed k t c log es ≡ config_committed (hold_no_config k) l.committed log
+    pub committed : committed_in k es t c ≡ l.committed
     pub within : MatchOption l.committed (Unit {0}) (λ n. n ≤ length l.log)
 
   -- this server has not campaigned in this term, and no server has voted for it in time, or sent it
@@ -74,7 +98,7 @@ module _ {T ID D : Type 0} (k : Tests T ID D (Option D)) where
     pub leader_log : leader_log_in k es t c ≡ []
     pub voted : (v : ID) → has_voted k t c (events_in k es v) ≡ false
     pub acked : (v : ID) (n : ℕ) → has_acked k t c n (events_in k es v) ≡ false
-    pub committed : (log : List (Entry T D)) → is_config_committed k t c log es ≡ false
+    pub committed : committed_in k es t c ≡ None
 
   -- what is kept of the candidate or leader of this term and id, if anything is
   abbrev pub find_leader : List (LeaderState T ID D) → T → ID → Option (LeaderState T ID D)

@@ -29,7 +29,7 @@ impl<T: Copy + Eq, D: Copy + Eq> Logs<T, D> {
     ghost use Rattle.std.specs.Prelude.{◌≡◌, ◌+◌, ◌-◌, ◌^◌, ◌<◌, ◌≤◌, ◌++◌, ◌∷◌, if◌then◌else◌, ℕ, Bool, [], IfOk, IfSome, IsFalse, IsNone, IsTrue, None, OnErr, length, nat_eq, take, drop};
     ghost use Rattle.raft_safety.specs.Configs.{effective_config};
     ghost use Rattle.raft_safety.specs.Inner.CheckerState.{common_len, config_in, same_entry_by};
-    ghost use Rattle.raft_safety.specs.Inner.Logs.{AreDistinct, AreLogs, HasNoChild, IsChild, IsExact, IsTree, config_at, last_entry, log_at, no_logs};
+    ghost use Rattle.raft_safety.specs.Inner.Logs.{AreDistinct, AreLogs, AreWithout, HasNoChild, IsChild, IsExact, IsTree, config_at, has_last, last_entry, log_at, no_logs};
     ghost use Rattle.raft_safety.specs.Inner.Nodes.{IsNode};
 
     /// Returns the empty log alone.
@@ -155,6 +155,29 @@ impl<T: Copy + Eq, D: Copy + Eq> Logs<T, D> {
             }
         }
         self.len(x)
+    }
+
+    /// Whether the last entry of a log has this content.
+    fn ends_with(&self, log: usize, content: D) -> bool
+        ensures { result ≡ has_last D.eq content (last_entry (log_at self.now log)) }
+    {
+        match self.last(log) {
+            Some(entry) => content == entry.content,
+            None => false,
+        }
+    }
+
+    /// Whether an entry of a log has this content.
+    pub fn has_content(&self, content: D) -> bool
+        ensures yes { IsTrue result → AreWithout D.eq self.now content → ⊥ }
+        ensures no { IsFalse result → AreWithout D.eq self.now content }
+    {
+        for i in 0..self.count() {
+            if self.ends_with(i + 1, content) {
+                return true;
+            }
+        }
+        false
     }
 
     /// Whether a log begins with another.
