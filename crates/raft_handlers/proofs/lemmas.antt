@@ -14,6 +14,7 @@ pub mod SendLemmas
 pub mod SnapshotLemmas
 pub mod StartLemmas
 pub mod TakeLemmas
+pub mod TallyLemmas
 pub mod TermLemmas
 pub mod TrackedLemmas
 pub mod VoteLemmas

@@ -1,5 +1,7 @@
 -- What a candidate knows, and what elects it.
-use Rattle.std.specs.Prelude.{◌≡◌, ◌≤◌, ◌+◌, ◌^◌, ◌⊎◌, ℕ, Bool, false, max, ◌&&◌, ◌||◌, Option, Some, is_some, IsTrue}
+use Rattle.std.specs.Prelude.{◌≡◌, ◌≤◌, ◌+◌, ◌^◌, ◌⊎◌, ℕ, Bool, false, max, ◌&&◌, ◌||◌, not, nat_lt}
+use Rattle.std.specs.Prelude.{List, length, Option, Some, is_some, IsTrue}
+use Rattle.std.specs.Set.{is_member}
 use Rattle.std.specs.Option.{option_map_or}
 use Rattle.std.specs.declared.cmp.Ordering.TheVariants.{Greater}
 use mathlib.Core.Bool.{beq}
@@ -7,7 +9,7 @@ use Rattle.raft_base.specs.UTime.{moment_of, utime_of}
 use Rattle.raft_base.specs.Vote.{vote_cmp}
 use Rattle.raft_base.specs.declared.log_id.LogIdOf.{LogIdOf}
 use Rattle.raft_base.specs.declared.vote.VoteIn.{VoteIn}
-use Rattle.raft_members.specs.quorum.Majority.{is_voter_of}
+use Rattle.raft_members.specs.quorum.Majority.{is_joint_majority, is_voter_of}
 use Rattle.raft_members.specs.membership.Stored.{membership_of}
 use Rattle.raft_progress.specs.progress.ProgressView.{state}
 use Rattle.raft_progress.specs.tracked.EachConfig.{MajorityOfEach}
@@ -42,6 +44,18 @@ module _ {K N L C : Type 0} (eq : K → K → Bool) where
   -- a majority of each config has voted for the candidate, and there is a config
   abbrev pub HasMajorities : Campaign K N L C → Type 0
   HasMajorities c = MajorityOfEach eq c.votes (λ v. v)
+
+  -- a node may have voted once all have responded: it has voted for the candidate, or it is not among
+  -- those who have refused
+  abbrev pub may_have_vote : Campaign K N L C → (refused : List K) → K → Bool
+  may_have_vote c refused id = has_vote_of c id || not (is_member eq refused id)
+
+  -- those who have voted for the candidate or have not refused are a majority of each config, and there
+  -- is a config
+  abbrev pub can_have_majorities : Campaign K N L C → (refused : List K) → Bool
+  can_have_majorities c refused =
+      nat_lt 0 (length c.votes.membership.configs)
+      && is_joint_majority eq c.votes.membership.configs (may_have_vote c refused)
 
   -- the vote of a member is counted, and all else is as it was
   pub record CountsVoteOf (from : K) (old new : Campaign K N L C) : Type 0 where

@@ -1,8 +1,11 @@
 //! A candidate: it votes for itself, asks the others for their votes, and counts them.
-ghost use Rattle.std.specs.Prelude.{◌≡◌, ◌↔◌, max, false, IfErr, IfOk, IsTrue, OnErr};
+ghost use Rattle.std.specs.Prelude.{◌≡◌, ◌↔◌, length, max, false, IfErr, IfOk, IsTrue, OnErr};
+ghost use Rattle.std.specs.List.{filter, list_all};
 ghost use Rattle.std.specs.Set.{ClonesAreEqual};
-ghost use Rattle.raft_handlers.specs.Campaign.{Campaigns, CountsVoteOf, HasMajorities, IsCampaignRefusal, grants_vote, may_campaign};
+ghost use Rattle.raft_handlers.specs.Campaign.{Campaigns, CountsVoteOf, HasMajorities, IsCampaignRefusal, can_have_majorities, grants_vote, has_vote_of, may_campaign, may_have_vote};
 ghost use Rattle.raft_handlers.specs.Compared.{compared};
+ghost use Rattle.raft_handlers.specs.declared.candidate.Tally.TheVariants.{Lost, Won};
+ghost use Rattle.raft_members.specs.quorum.Majority.{is_majority};
 ghost use Rattle.raft_state.specs.raft_state.Sound.{IsSound};
 ghost use Rattle.raft_state.specs.raft_state.VoteAndLog.{vote_of};
 
@@ -16,6 +19,7 @@ use raft_members::membership::Configs;
 use raft_progress::laws::{granted_is_threshold, quorums_know_granted};
 use raft_progress::{Progress, Tracked};
 use raft_state::{RaftStateIn, VoteStateReader};
+use std::collections::BTreeSet;
 use std::fmt;
 use std::marker::Model;
 
@@ -31,6 +35,17 @@ pub fn may_lead<NID: NodeId, N: Node, I: Instant, L: Drop, C: Ord + Copy + Drop>
     ensures { result ≡ may_campaign NID.eq id.now state.now.membership_state }
 {
     state.membership_state.is_voter(id) || state.membership_state.committed().is_voter(id)
+}
+
+/// How an election stands.
+#[derive(Debug, Clone, Copy, PartialEq, Eq)]
+pub enum Tally {
+    /// A majority of each config has voted for the candidate.
+    Won,
+    /// The candidate may still be elected.
+    Pending,
+    /// So many voters have refused that the others are no majority of some config.
+    Lost,
 }
 
 /// A node that asks the voters of its effective membership for their votes.
@@ -131,6 +146,83 @@ impl<
     {
         if response.granted && response.vote == self.vote {
             let _reply = self.votes.update(from, true);
+        }
+    }
+
+    /// Returns how the election stands if these nodes have refused. A node that has voted for the
+    /// candidate counts as a voter for it, even if it is among these.
+    ///
+    /// The election is won if a majority of each config has voted for the candidate. Otherwise it is
+    /// lost if those who have voted or have not refused are no majority of some config: then stop
+    /// waiting, and campaign again after a while.
+    pub fn tally(&self, refused: &[NID]) -> Tally
+        ensures won { (result ≡ Won) ↔ HasMajorities NID.eq self.now }
+        ensures lost { (result ≡ Lost)
+            ↔ ((HasMajorities NID.eq self.now → ⊥)
+            × (can_have_majorities NID.eq self.now refused.now ≡ false)) }
+    {
+        if self.is_elected() {
+            return Tally::Won;
+        }
+        if self.can_be_elected(refused) {
+            return Tally::Pending;
+        }
+        Tally::Lost
+    }
+
+    /// Whether those who have voted or have not refused are a majority of each config.
+    fn can_be_elected(&self, refused: &[NID]) -> bool
+        ensures { result ≡ can_have_majorities NID.eq self.now refused.now }
+    {
+        let configs = self.votes.membership().get_joint_config().as_slice();
+        if configs.is_empty() {
+            return false;
+        }
+        self.can_have_each(configs, refused)
+    }
+
+    /// Whether those who have voted or have not refused are a majority of each of the configs.
+    fn can_have_each(&self, configs: &[BTreeSet<NID>], refused: &[NID]) -> bool
+        ensures { result ≡ list_all
+            (λ c. is_majority NID.eq c.keys (may_have_vote NID.eq self.now refused.now))
+            configs.now }
+    {
+        configs.iter().all(|config| self.can_have(config, refused))
+    }
+
+    /// Whether those who have voted or have not refused are a majority of a config.
+    fn can_have(&self, config: &BTreeSet<NID>, refused: &[NID]) -> bool
+        ensures { result
+            ≡ is_majority NID.eq config.now.keys (may_have_vote NID.eq self.now refused.now) }
+    {
+        self.count_open(config, refused) > config.len() / 2
+    }
+
+    /// Counts the members of a config that have voted or have not refused.
+    fn count_open(&self, config: &BTreeSet<NID>, refused: &[NID]) -> usize
+        ensures { result
+            ≡ length (filter (may_have_vote NID.eq self.now refused.now) config.now.keys) }
+    {
+        config
+            .iter()
+            .filter(|id| self.may_have_vote(id, refused))
+            .count()
+    }
+
+    /// Whether a node has voted for the candidate, or has not refused.
+    fn may_have_vote(&self, id: &NID, refused: &[NID]) -> bool
+        ensures { result ≡ may_have_vote NID.eq self.now refused.now id.now }
+    {
+        self.has_vote_of(id) || !refused.contains(id)
+    }
+
+    /// Whether a node has voted for the candidate.
+    fn has_vote_of(&self, id: &NID) -> bool
+        ensures { result ≡ has_vote_of NID.eq self.now id.now }
+    {
+        match self.votes.progress().try_get(id) {
+            Some(has_voted) => *has_voted,
+            None => false,
         }
     }
 

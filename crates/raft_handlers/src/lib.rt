@@ -20,7 +20,7 @@ pub mod state;
 pub mod vote;
 
 pub use append::handle_append_entries;
-pub use candidate::{Candidate, may_lead};
+pub use candidate::{Candidate, Tally, may_lead};
 pub use changes::{Changes, SnapshotChanges};
 pub use error::HandlerError;
 pub use leader::{ChangeError, Leader};

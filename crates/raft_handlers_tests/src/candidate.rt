@@ -3,7 +3,7 @@
 use crate::asserts::assert_right;
 use crate::states::{StateOf, id, voter};
 use raft_base::{EmptyNode, LeaderAdv, LeaderKind, LeaderStd, VoteOf};
-use raft_handlers::{Candidate, HandlerError, Leader, VoteResponse};
+use raft_handlers::{Candidate, HandlerError, Leader, Tally, VoteResponse};
 use raft_testing::memory::on;
 use std::alloc::{AllocError, Global};
 use std::test::Fail;
@@ -19,14 +19,59 @@ pub type CandidateOf<K> = Candidate<
 /// Who responds, of which term, and whether the vote is granted.
 type Votes = &'static [(u64, u64, bool)];
 
-/// Votes for the candidate of term 6, and whether they elect it.
-const ROWS: &[(&str, Votes, bool)] = &[
-    ("its own alone", &[], false),
-    ("refusals", &[(2, 6, false), (3, 6, false)], false),
-    ("votes of other terms", &[(2, 5, true), (3, 7, true)], false),
-    ("votes of no members", &[(8, 6, true), (9, 6, true)], false),
-    ("its own, again", &[(1, 6, true), (1, 6, true)], false),
-    ("one more", &[(2, 6, false), (3, 6, true)], true),
+/// Responses to the candidate of term 6, those of them that refuse, and how its election stands.
+const ROWS: &[(&str, Votes, &[u64], Tally)] = &[
+    ("its own alone", &[], &[], Tally::Pending),
+    ("one refusal", &[(2, 6, false)], &[2], Tally::Pending),
+    (
+        "refusals",
+        &[(2, 6, false), (3, 6, false)],
+        &[2, 3],
+        Tally::Lost,
+    ),
+    (
+        "a refusal that comes twice",
+        &[(2, 6, false), (2, 6, false)],
+        &[2, 2],
+        Tally::Pending,
+    ),
+    (
+        "votes of other terms",
+        &[(2, 5, true), (3, 7, true)],
+        &[],
+        Tally::Pending,
+    ),
+    (
+        "votes of no members",
+        &[(8, 6, true), (9, 6, true)],
+        &[],
+        Tally::Pending,
+    ),
+    (
+        "refusals of no members",
+        &[(8, 6, false), (9, 6, false)],
+        &[8, 9],
+        Tally::Pending,
+    ),
+    (
+        "its own, again",
+        &[(1, 6, true), (1, 6, true)],
+        &[],
+        Tally::Pending,
+    ),
+    ("one more", &[(2, 6, false), (3, 6, true)], &[2], Tally::Won),
+    (
+        "refusals of itself and another",
+        &[(2, 6, false)],
+        &[1, 2],
+        Tally::Pending,
+    ),
+    (
+        "a vote after all refusals",
+        &[(2, 6, false), (3, 6, true)],
+        &[2, 3],
+        Tally::Won,
+    ),
 ];
 
 /// Counts votes, and returns whether the candidate is elected.
@@ -50,12 +95,14 @@ pub fn candidate<K: LeaderKind<u64>>(
     Ok(candidate)
 }
 
-/// Whether the candidate of term 6 is elected by votes exactly if it should, and leads then. Term 5
-/// is the greatest that it has heard of, and its own vote is of term 3.
+/// Whether the election of the candidate of term 6 stands as it should after responses, and the
+/// candidate leads if it is won. Term 5 is the greatest that it has heard of, and its own vote is of
+/// term 3.
 fn elects<K: LeaderKind<u64>>(
     state: &mut StateOf<K>,
     votes: Votes,
-    elected: bool,
+    refused: &[u64],
+    tally: Tally,
 ) -> Result<bool, HandlerError> {
     let mut candidate = Candidate::campaign(1, 5, state)?;
     let vote = VoteOf::<u64, K>::new(6, 1);
@@ -70,18 +117,19 @@ fn elects<K: LeaderKind<u64>>(
         request.vote == vote,
         request.last_log_id == id::<K>(Some((2, 4))),
         promised == vote,
-        is_elected == elected,
-        leads == elected,
+        candidate.tally(refused) == tally,
+        is_elected == (tally == Tally::Won),
+        leads == (tally == Tally::Won),
     ];
-    Ok(are_right == [true; 5])
+    Ok(are_right == [true; 6])
 }
 
-/// Returns the name of the first row that does not elect exactly if it should.
+/// Returns the name of the first row after which the election stands otherwise.
 fn fails<K: LeaderKind<u64>>(alloc: Global) -> Result<Option<&'static str>, HandlerError> {
-    for (name, votes, elected) in ROWS {
+    for (name, votes, refused, tally) in ROWS {
         if !on(
             voter::<K>(alloc),
-            |state| elects::<K>(state, *votes, *elected),
+            |state| elects::<K>(state, *votes, *refused, *tally),
         )? {
             return Ok(Some(*name));
         }
