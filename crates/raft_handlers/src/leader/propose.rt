@@ -100,13 +100,8 @@ impl<NID: NodeId, N: Node, C: Ord + Copy + Default + Drop + 'static> Leader<NID,
         if !state.can_append_entries(&entries) {
             return Err(HandlerError::NotInOrder);
         }
-        if state.append_entries(&entries).is_err() {
-            return Err(HandlerError::OutOfMemory);
-        }
+        state.append_entries(&entries)?;
         state.update_accepted(Some(log_id));
-        match entries.pop() {
-            Some(entry) => Ok(entry),
-            None => unreachable!(),
-        }
+        Ok(entries.remove(0))
     }
 }

@@ -1,10 +1,9 @@
 use Rattle.std.proofs.Common.{◌≡◌, [], ◌∷◌, ◌++◌, List, Some, false, ap, rules, sym, ◌∙◌}
 use Rattle.std.specs.Cmp.{second_so}
-use Rattle.std.specs.Result.{is_err}
 use Rattle.raft_state.specs.entry.Entry.{payload_membership}
 use Rattle.raft_state.specs.declared.entry.EntryOf.{EntryOf}
 use Rattle.raft_handlers.specs.Proposals.{next_own_id}
-use Rattle.raft_handlers.proofs.lemmas.AppendLemmas.{appends_payload, not_err}
+use Rattle.raft_handlers.proofs.lemmas.AppendLemmas.{appends_payload}
 use Rattle.raft_handlers.proofs.lemmas.FollowerLemmas.{id_le-refl}
 use Rattle.raft_handlers.proofs.leader.Leader.append_own.Goals as goal
 
@@ -21,8 +20,7 @@ returns-clause-appended g c =
     ∙ ap (λ (xs : List (EntryOf g.row.C.Denot g.row.NID.Denot g.row.N.Denot g.row.D.Denot)). xs ++ entry ∷ [])
     c.new-entries.ensures.items in
     let own : c.new-log_id.result ≡ next_own_id c.args.self.now.leader_id c.args.state.now = search rules in
-    let ok : is_err c.append_entries.result ≡ false = sym c.is_err.ensures.value ∙ c.if-is_err.false in
-    let done = rw items at (not_err _ c.append_entries.result ok c.append_entries.ensures.memberships) in
+    let done = rw items at c.in_ok-append_entries.ensures.memberships in
     record {
       leads = search rules;
       is_next = search rules;
@@ -44,7 +42,6 @@ returns-clause-sound g c = λ sound.
     c.deref-3.ensures.value ∙ c.in-Ok.ensures.items
     ∙ ap (λ (xs : List (EntryOf g.row.C.Denot g.row.NID.Denot g.row.N.Denot g.row.D.Denot)). xs ++ entry ∷ [])
     c.new-entries.ensures.items in
-    let ok : is_err c.append_entries.result ≡ false = sym c.is_err.ensures.value ∙ c.if-is_err.false in
-    let last = rw items at (not_err _ c.append_entries.result ok c.append_entries.ensures.last) in
+    let last = rw items at c.in_ok-append_entries.ensures.last in
     c.update_accepted.ensures.sound (c.append_entries.ensures.sound sound)
     (rw last (id_le-refl g.met.C.Ord.total (Some c.new-log_id.result)))
