@@ -1,12 +1,17 @@
 //! First callers of the handlers, as the page for callers shows them.
-ghost use Rattle.std.specs.Prelude.{◌≡◌, ◌∷◌, [], Some, true, IfOk, IsTrue};
+ghost use Rattle.std.specs.Prelude.{◌≡◌, ◌∷◌, [], Some, true, IfOk, IsSome, IsTrue};
 ghost use Rattle.std.specs.Option.{option_cmp};
 ghost use Rattle.std.specs.Ordering.{is_le};
+ghost use Rattle.std.specs.Set.{ClonesAreEqual};
 ghost use Rattle.raft_base.specs.LeaderIdStd.{std_log_id_cmp};
+ghost use Rattle.raft_handlers.specs.Append.{has_all, last_of};
+ghost use Rattle.raft_handlers.specs.Leadership.{entry_of};
+ghost use Rattle.raft_progress.specs.declared.entry.ProgressEntryOf.{ProgressEntryOf};
 ghost use Rattle.raft_state.specs.membership_state.Memberships.{in_effect};
+ghost use Rattle.raft_state.specs.raft_state.Sound.{purged_or_logged};
 
 use raft_base::leader_id_std::{CommittedLeaderId, LeaderId};
-use raft_base::{EmptyNode, LogIdOf};
+use raft_base::{EmptyNode, Instant, LeaderIdentity, LogIdOf, Node, NodeId};
 use raft_handlers::{
     AppendEntries, Candidate, HandlerError, Leader, Outcome, State, VoteRequest,
     handle_append_entries, handle_vote_request,
@@ -54,4 +59,40 @@ pub fn commits_alone(
     leader.handle_flushed(state, Some(entry.log_id))?;
     leader.commit(state)?;
     Ok(entry.log_id)
+}
+
+/// A member takes a request that its leader has put in flight, and the leader takes the response.
+/// Returns whether the member's log matches the leader's up to the last log id of the request. If it
+/// does, the member has every entry of the request, and the leader knows that.
+pub fn replicates<
+    NID: NodeId,
+    N: Node,
+    I: Instant,
+    L: LeaderIdentity<Id = NID, Committed = C> + Drop,
+    C: Ord + Copy + Default + Drop + 'static,
+    D,
+>(
+    leader: &mut Leader<NID, N, C>,
+    member: &NID,
+    state: &mut State<NID, N, I, L>,
+    request: &AppendEntries<L, C, NID, N, D>,
+) -> Result<bool, HandlerError>
+    requires clones_are_equal { ClonesAreEqual N.eq N.is_clone }
+    ensures has { IfOk result (λ matches. IsTrue matches →
+        IsTrue (has_all C.eq state.new request.now.entries.items)) }
+    ensures knows { IfOk result (λ matches. IsTrue matches → IsSome request.now.request →
+        (entry : ProgressEntryOf C) → entry_of NID.eq leader.new member.now ≡ Some entry →
+        entry.matching ≡ last_of request.now.prev request.now.entries.items) }
+    ensures knows_what_is_there { IfOk result (λ matches. IsTrue matches →
+        IsSome request.now.request →
+        (entry : ProgressEntryOf C) → entry_of NID.eq leader.new member.now ≡ Some entry →
+        IsTrue (purged_or_logged C.eq state.new entry.matching)) }
+{
+    let (response, _changes) = handle_append_entries(state, request)?;
+    // Here a program writes the changes to the member's disk, and sends the response.
+    leader.handle_response(member, &response)?;
+    match response.outcome {
+        Outcome::Matches(_) => Ok(true),
+        _ => Ok(false),
+    }
 }
