@@ -1,7 +1,6 @@
 //! What is sent to a follower next, if probes without entries are sent too.
-ghost use Rattle.std.specs.Prelude.{◌≡◌, IsTrue};
+ghost use Rattle.std.specs.Prelude.{◌≡◌, false, None, Some, if◌then◌else◌, IsTrue};
 ghost use Rattle.raft_progress.specs.entry.Probe.{after_probe, after_send, is_probe_due, is_searched};
-ghost use Rattle.raft_progress.specs.entry.Request.{FollowsRequest};
 
 use super::ProgressEntryOf;
 use crate::inflight::InflightOf;
@@ -12,38 +11,35 @@ use raft_base::{LogIdRangeOf, LogStateReader};
 const SEARCHED: u64 = 16;
 
 impl<C: Ord + Copy> ProgressEntryOf<C> {
-    /// Puts in flight what is to be sent next, and returns it: a probe, if one is due, or what
-    /// `send_next` gives, of one entry at most in a search. The result is `InflightOf::None` if
-    /// nothing was sent.
+    /// Puts in flight what is to be sent next: a probe, if one is due, or what `next_send` gives, of
+    /// one entry at most in a search. Returns whether something was sent, or at least a request
+    /// number was used.
     // What a search needs is not inlined, so that a follower that has most of the log pays one test.
+    // The result is no copy of what is in flight, because the compiler would copy it three times.
     #[inline(always)]
-    pub(crate) fn probe_or_send<L: LogStateReader<C>>(
-        &mut self,
-        log: &L,
-        max_entries: u64,
-    ) -> InflightOf<C>
-        ensures { FollowsRequest
-            (after_send C.cmp self.old (L.log_view log.now) max_entries)
-            self.old result self.new }
+    pub(crate) fn probe_or_send<L: LogStateReader<C>>(&mut self, log: &L, max_entries: u64) -> bool
+        ensures sent { after_send C.cmp self.old (L.log_view log.now) max_entries
+            ≡ (if result then Some self.new else None) }
+        ensures unchanged { result ≡ false → self.new ≡ self.old }
     {
         if self.is_searched() {
             return self.search(log, max_entries);
         }
-        self.send_next(log, max_entries)
+        self.can_send(log) && self.send(log, max_entries)
     }
 
-    /// Puts in flight what is to be sent next in a search, and returns it.
-    fn search<L: LogStateReader<C>>(&mut self, log: &L, max_entries: u64) -> InflightOf<C>
+    /// Puts in flight what is to be sent next in a search, and returns whether something was.
+    fn search<L: LogStateReader<C>>(&mut self, log: &L, max_entries: u64) -> bool
         requires { IsTrue (is_searched self.old) }
-        ensures { FollowsRequest
-            (after_send C.cmp self.old (L.log_view log.now) max_entries)
-            self.old result self.new }
+        ensures sent { after_send C.cmp self.old (L.log_view log.now) max_entries
+            ≡ (if result then Some self.new else None) }
+        ensures unchanged { result ≡ false → self.new ≡ self.old }
     {
         if let Some(probing) = self.with_probe(log) {
             *self = probing;
-            return self.inflight;
+            return true;
         }
-        self.send_next(log, max_entries.min(1))
+        self.can_send(log) && self.send(log, max_entries.min(1))
     }
 
     /// Whether the last log id that both logs have is searched for: there are many indexes between

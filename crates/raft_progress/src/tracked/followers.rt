@@ -55,7 +55,10 @@ impl<NID: NodeId, N: Node, C: Ord + Copy> Tracked<NID, N, ProgressEntryOf<C>, Op
         let Some(entry) = self.progress.get_mut(id) else {
             return None;
         };
-        Some(entry.probe_or_send(log, max_entries))
+        if entry.probe_or_send(log, max_entries) {
+            return Some(entry.inflight);
+        }
+        Some(InflightOf::None)
     }
 
     /// Takes the response that a member has all logs up to a log id, as

@@ -17,6 +17,7 @@ use Rattle.raft_progress.specs.tracked.Followers.{IsResponse}
 use Rattle.raft_progress.specs.declared.entry.ProgressEntryOf.{ProgressEntryOf}
 use Rattle.raft_progress.specs.declared.inflight.InflightError.{InflightError}
 use Rattle.raft_progress.specs.declared.inflight.InflightOf.{InflightOf}
+use Rattle.raft_progress.specs.declared.inflight.InflightOf.TheVariants.{None as Idle}
 
 -- a call that is not refused leaves the table's value
 pub taken_by : {S E U : Type 0} (table : Result S E) (old new : S) (u : U) → FollowsTable table old (Ok u) new
@@ -107,6 +108,18 @@ next_keeps cmp entry new log max_entries h =
     first_of (λ (n : ProgressEntryOf _). n.matching ≡ entry.matching) (after_probe entry log)
     (after_request cmp entry log (limit_of entry max_entries)) new
     (λ m k. probe_keeps entry m log k) (λ m k. request_keeps cmp entry m log (limit_of entry max_entries) k) h
+
+-- a call that says whether a request is made leaves what each request leaves
+module _ {C : Type 0} (request : Option (ProgressEntryOf C)) (old new : ProgressEntryOf C) where
+  pub requests : (made : Bool) → request ≡ (if made then Some new else None) → (made ≡ false → new ≡ old)
+      → FollowsRequest request old (if made then new.inflight else Idle) new
+  requests true is same = subst (λ (r : Option (ProgressEntryOf C)). FollowsRequest r old new.inflight new) (sym is) (refl, refl)
+  requests false is same = subst (λ (r : Option (ProgressEntryOf C)). FollowsRequest r old Idle new) (sym is) (same refl, refl)
+
+  pub made_by : (P : ProgressEntryOf C → Type 0) → P old → ((n : ProgressEntryOf C) → request ≡ Some n → P n) → (made : Bool)
+      → request ≡ (if made then Some new else None) → (made ≡ false → new ≡ old) → P new
+  made_by P p q true is same = q new is
+  made_by P p q false is same = subst P (sym (same refl)) p
 
 -- a call that makes the next request leaves what each request leaves
 pub requested : {C : Type 0} (P : ProgressEntryOf C → Type 0) (request : Option (ProgressEntryOf C)) (old : ProgressEntryOf C)
