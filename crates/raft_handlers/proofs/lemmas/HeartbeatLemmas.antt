@@ -30,10 +30,7 @@ use Rattle.raft_base.specs.LogIdLawful.{optional-log_id_cmp-total}
 use Rattle.raft_base.specs.declared.log_id.LogIdOf.{LogIdOf}
 use Rattle.raft_handlers.proofs.lemmas.CutLemmas.{replaces_nothing}
 use Rattle.raft_handlers.proofs.lemmas.TakeLemmas.{commit_took}
-use Rattle.raft_handlers.proofs.lemmas.WrittenLemmas.{nothing_matches}
-use Rattle.raft_handlers.specs.Append.{last_of, least, Took}
-use Rattle.raft_handlers.specs.Written.{no_changes, WritesLog}
-use Rattle.raft_handlers.specs.declared.message.Outcome.TheVariants.{Matches}
+use Rattle.raft_handlers.specs.Append.{least, Took}
 use Rattle.raft_progress.proofs.lemmas.OrderLemmas.{AtMost-from_not_lt, AtMost-refl, lt_le, not_lt-from_AtMost}
 use Rattle.raft_progress.specs.progress.Comparisons.{OrdMembers}
 use Rattle.raft_state.proofs.lemmas.log_id_list.IdOrderLemmas.{none_at_most, then_below, upto_equal}

@@ -14,7 +14,6 @@ use Rattle.std.proofs.Common.{
   Some,
   None,
   if◌then◌else◌,
-  IsTrue,
   drop,
   length,
   length-drop,

@@ -1,4 +1,3 @@
-use Rattle.std.proofs.Common.{◌≡◌}
 use Rattle.raft_handlers.proofs.lemmas.ExtendLemmas.{call_extends, extend_zero, plain_extends}
 use Rattle.raft_handlers.proofs.log.extend.Goals as goal
 
