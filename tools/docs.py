@@ -1074,10 +1074,6 @@ COUNTED = [
     ("N clusters with each planted fault", lambda: number_in("tools/programs.sh", r"failing seeds=(\d+)")),
     ("runs N servers", lambda: number_in("crates/cluster/src/server.rt", r"SERVERS: u64 = (\d+)")),
     ("records the first N events", lambda: number_in("crates/cluster/src/cluster.rt", r"RECORDED: u64 = ([\d_]+)")),
-    (
-        "(?:checks|checked|record) every N events",
-        lambda: number_in("crates/cluster/src/cluster.rt", r"CHECKED_EVERY: u64 = ([\d_]+)"),
-    ),
     ("rows of seed N", lambda: number_in("crates/cluster/args", r"seed=(\d+)")),
     (
         "The layer has N crates, which the first picture shows",

@@ -24,9 +24,6 @@ const TIME_TO_CONVERGE: u64 = 10_000;
 /// How many events of a cluster are recorded for the laws of safety.
 const RECORDED: u64 = 10_000;
 
-/// After how many events what is recorded is checked. It is checked at the end of the run, too.
-const CHECKED_EVERY: u64 = 500;
-
 /// Servers and the network between them.
 #[derive(Drop)]
 pub struct Cluster {
@@ -68,7 +65,7 @@ impl Cluster {
         Ok(Verdict {
             events: cluster.tally.events,
             found,
-            rules: cluster.trace.check(),
+            rules: cluster.trace.verdict(),
         })
     }
 
@@ -223,13 +220,10 @@ impl Cluster {
         Ok(())
     }
 
-    /// Records what a server has done. Every so often all that is recorded is checked.
+    /// Records what a server has done, and checks that the rules of the laws of safety allow it.
     fn record(&mut self, place: usize, said: Said) -> Result<(), Violation> {
         if let Some(server) = self.servers.get(place) {
             server.record(said, &mut self.trace)?;
-        }
-        if self.tally.events % CHECKED_EVERY == 0 {
-            self.trace.check()?;
         }
         Ok(())
     }

@@ -4,7 +4,6 @@ use crate::server::{Role, Server};
 use crate::types::{CommittedLeaderId, LogId, end};
 use raft_base::LogStateReader;
 use raft_handlers::HandlerError;
-use raft_safety::check::Refused;
 use raft_safety::checker;
 use std::alloc::{AllocError, Global};
 use std::collections::BTreeMap;
@@ -49,9 +48,9 @@ pub enum Violation {
     OutOfMemory(#[from(alloc)] AllocError),
 }
 
-impl From<Refused> for Violation {
-    fn from(refused: Refused) -> Self {
-        match refused.violation {
+impl From<checker::Violation> for Violation {
+    fn from(violation: checker::Violation) -> Self {
+        match violation {
             checker::Violation::OutOfMemory => AllocError.into(),
             checker::Violation::Rule(_) => Violation::BrokenRule,
         }

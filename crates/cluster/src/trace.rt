@@ -4,8 +4,8 @@
 //! Its checker says whether they were. A log of the laws has no entry 0, which starts the cluster.
 
 use crate::types::CommittedLeaderId;
-use raft_safety::check::{Refused, check};
-use raft_safety::checker::Violation;
+use raft_safety::check::Refused;
+use raft_safety::checker::{Checker, LearnError, Violation};
 use raft_safety::entry::Entry as LawEntry;
 use raft_safety::event::Event as LawEvent;
 use raft_safety::memberships::Memberships;
@@ -67,88 +67,121 @@ struct Recorded {
     applied: usize,
 }
 
-/// The acts of the servers so far.
+/// What the servers have done so far, as the checker of the laws knows it.
 #[derive(Drop)]
 pub struct Trace {
-    acts: Vec<Act>,
+    checker: Checker<Term, u64, u64, Memberships<u64, u64>>,
+    /// The numbers of the memberships that the checker knows.
+    named: Vec<u64>,
+    /// The number of acts that were allowed.
+    allowed: usize,
+    /// The first act that was refused, if there is one.
+    refused: Option<Refused>,
     servers: Vec<Recorded>,
     /// The entries that are committed.
     committed: Vec<Entry>,
-    /// The number of each membership, with its configs.
-    memberships: Vec<(u64, Vec<Vec<u64>>)>,
 }
 
 impl Trace {
-    /// Returns a trace in which nothing has happened.
-    pub fn new(alloc: Global, servers: u64) -> Result<Self, AllocError> {
-        let mut recorded = Vec::new(alloc);
-        for _ in 0..servers {
-            recorded.push(Recorded {
-                campaigned: Term::default(),
-                voted: (Term::default(), 0),
-                log: Vec::new(alloc),
-                applied: 0,
-            })?;
-        }
+    /// Returns a trace in which nothing has happened. The first three servers are the first voters.
+    pub fn new(alloc: Global, servers: u64) -> Result<Self, Violation> {
         Ok(Trace {
-            acts: Vec::new(alloc),
-            servers: recorded,
+            checker: Checker::new(alloc, first_voters(alloc)?)?,
+            named: Vec::new(alloc),
+            allowed: 0,
+            refused: None,
+            servers: nothing_recorded(alloc, servers)?,
             committed: Vec::new(alloc),
-            memberships: Vec::new(alloc),
         })
     }
 
-    /// Records what a membership's number means.
+    /// Whether it is known what a membership's number means.
+    pub fn is_named(&self, number: u64) -> bool {
+        self.named.contains(&number)
+    }
+
+    /// Records what a membership's number means. An act with an entry of this number comes later.
     pub fn name(&mut self, number: u64, configs: Vec<Vec<u64>>) -> Result<(), AllocError> {
-        let is_known = self.memberships.iter().any(|known| known.0 == number);
-        if !is_known {
-            self.memberships.push((number, configs))?;
+        if let Err(LearnError::OutOfMemory) = self.checker.learn(number, configs) {
+            return Err(AllocError);
+        }
+        self.named.push(number)?;
+        Ok(())
+    }
+
+    /// Records what a server has done in an event, and checks that each act was allowed by those
+    /// before it. Then the cluster was safe so far.
+    ///
+    /// # Errors
+    ///
+    /// The rule that the first refused act breaks, or out of memory.
+    pub fn record(&mut self, view: &View, said: Said) -> Result<(), Violation> {
+        let acts = self.acts(view, said)?;
+        for act in &acts {
+            match self.checker.record(act) {
+                Ok(()) => self.allowed = self.allowed.saturating_add(1),
+                Err(violation) => {
+                    self.refused = Some(Refused {
+                        event: self.allowed,
+                        violation,
+                    });
+                    return Err(violation);
+                }
+            }
         }
         Ok(())
     }
 
-    /// Records what a server has done in an event.
-    pub fn record(&mut self, view: &View, said: Said) -> Result<(), AllocError> {
+    /// Returns the acts of a server in an event, and takes note of what it has now.
+    fn acts(&mut self, view: &View, said: Said) -> Result<Vec<Act>, AllocError> {
+        let mut acts = Vec::new(*self.committed.allocator());
         let place = view.server.saturating_sub(1) as usize;
         let Some(server) = self.servers.get_mut(place) else {
-            return Ok(());
+            return Ok(acts);
         };
-        server.record_election(view, said, &mut self.acts)?;
+        server.record_election(view, said, &mut acts)?;
         let log = full_log(view, &self.committed)?;
-        server.record_log(view, log, said, &mut self.acts)?;
-        server.record_commit(view, said, &mut self.acts)?;
+        server.record_log(view, log, said, &mut acts)?;
+        server.record_commit(view, said, &mut acts)?;
         if let Some(new) = server.log.get(self.committed.len()..server.applied) {
             self.committed.extend_from_slice(new)?;
         }
-        Ok(())
+        Ok(acts)
     }
 
-    /// Checks that each act so far was allowed by those before it. Then the cluster was safe so
-    /// far.
+    /// Whether each act so far was allowed by those before it.
     ///
     /// # Errors
     ///
     /// The first act that was not allowed, and the rule that it breaks, or out of memory.
-    pub fn check(&self) -> Result<(), Refused> {
-        match self.memberships() {
-            Ok(memberships) => check(*self.acts.allocator(), memberships, &self.acts),
-            Err(_) => Err(Refused {
-                event: 0,
-                violation: Violation::OutOfMemory,
-            }),
+    pub fn verdict(&self) -> Result<(), Refused> {
+        match self.refused {
+            Some(refused) => Err(refused),
+            None => Ok(()),
         }
     }
+}
 
-    /// Returns a copy of all memberships so far. The first three servers are the first voters.
-    fn memberships(&self) -> Result<Memberships<u64, u64>, AllocError> {
-        let alloc = *self.acts.allocator();
-        let mut held = Vec::new(alloc);
-        for (number, configs) in &self.memberships {
-            held.push((*number, copy_of(configs)?))?;
-        }
-        let initial = vec![in alloc; (1..=3).collect(alloc)?]?;
-        Ok(Memberships { initial, held })
+/// Returns what is recorded of servers that have done nothing.
+fn nothing_recorded(alloc: Global, servers: u64) -> Result<Vec<Recorded>, AllocError> {
+    let mut recorded = Vec::new(alloc);
+    for _ in 0..servers {
+        recorded.push(Recorded {
+            campaigned: Term::default(),
+            voted: (Term::default(), 0),
+            log: Vec::new(alloc),
+            applied: 0,
+        })?;
     }
+    Ok(recorded)
+}
+
+/// Returns the membership of the first three servers. No entry holds a membership yet.
+fn first_voters(alloc: Global) -> Result<Memberships<u64, u64>, AllocError> {
+    Ok(Memberships {
+        initial: vec![in alloc; (1..=3).collect(alloc)?]?,
+        held: Vec::new(alloc),
+    })
 }
 
 impl Recorded {
@@ -273,16 +306,6 @@ fn full_log(view: &View, committed: &[Entry]) -> Result<Vec<Entry>, AllocError> 
     let mut log = purged.to_vec(*view.entries.allocator())?;
     log.extend_from_slice(&view.entries)?;
     Ok(log)
-}
-
-/// Returns a copy of the configs of a membership.
-fn copy_of(configs: &Vec<Vec<u64>>) -> Result<Vec<Vec<u64>>, AllocError> {
-    let alloc = *configs.allocator();
-    let mut copy = Vec::new(alloc);
-    for voters in configs {
-        copy.push(voters.to_vec(alloc)?)?;
-    }
-    Ok(copy)
 }
 
 /// Returns how many first entries two logs have in common.

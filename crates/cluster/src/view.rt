@@ -5,16 +5,20 @@ use crate::server::{Role, Server};
 use crate::trace::{Entry, Said, Trace, View};
 use crate::types::{Members, Payload, end};
 use raft_handlers::Outcome;
-use std::alloc::AllocError;
+use raft_safety::checker::Violation;
+use std::alloc::{AllocError, Global};
 
 /// The number of the first membership: no command has a number that is as great.
 const FIRST_MEMBERSHIP: u64 = 1_000_000_000_000;
 
 impl Server {
     /// Records what the server has said and done.
-    pub fn record(&self, said: Said, trace: &mut Trace) -> Result<(), AllocError> {
-        let (number, configs) = self.named_members()?;
-        trace.name(number, configs)?;
+    pub fn record(&self, said: Said, trace: &mut Trace) -> Result<(), Violation> {
+        for entry in &self.disk {
+            if let Payload::Membership(members) = &entry.payload {
+                name_members(members, *self.disk.allocator(), trace)?;
+            }
+        }
         trace.record(&self.view()?, said)
     }
 
@@ -41,18 +45,20 @@ impl Server {
             committed: end(self.state.committed).saturating_sub(1) as usize,
         })
     }
+}
 
-    /// Returns the effective membership: its number, and the voters of each config.
-    fn named_members(&self) -> Result<(u64, Vec<Vec<u64>>), AllocError> {
-        let members = self.members();
-        let alloc = *self.disk.allocator();
-        let mut configs = Vec::new(alloc);
-        for config in members.get_joint_config() {
-            let voters: Vec<u64> = config.iter().copied().collect(alloc)?;
-            configs.push(voters)?;
-        }
-        Ok((number_of_members(members), configs))
+/// Records the number of a membership, with the voters of each config, unless it is known.
+fn name_members(members: &Members, alloc: Global, trace: &mut Trace) -> Result<(), AllocError> {
+    let number = number_of_members(members);
+    if trace.is_named(number) {
+        return Ok(());
     }
+    let mut configs = Vec::new(alloc);
+    for config in members.get_joint_config() {
+        let voters: Vec<u64> = config.iter().copied().collect(alloc)?;
+        configs.push(voters)?;
+    }
+    trace.name(number, configs)
 }
 
 /// Returns what an answer says that the state of the server does not show.
