@@ -18,6 +18,7 @@ pub mod CheckedLeaderLemmas
 pub mod CheckerLemmas
 pub mod StateLemmas
 pub mod PlaceLemmas
+pub mod CommitLemmas
 pub mod ContentLemmas
 pub mod LearnLemmas
 pub mod CheckerStepLemmas

@@ -21,7 +21,7 @@ use Rattle.raft_safety.specs.Trace.{
   are_allowed,
 }
 use Rattle.raft_safety.specs.Inner.CheckerState.{LeaderState, ServerState, config_in, knows}
-use Rattle.raft_safety.specs.Inner.Kept.{HaveLogs, Parts, leaders_in, servers_in}
+use Rattle.raft_safety.specs.Inner.Kept.{AreBounded, HaveLogs, Parts, leaders_in, servers_in}
 use Rattle.raft_safety.specs.Inner.Logs.{AreLogs, AreWithout}
 use Rattle.raft_safety.specs.Inner.Places.{ArePlaced}
 use Rattle.raft_safety.specs.Inner.Seen.{SeesServers, SeesLeaders}
@@ -77,6 +77,7 @@ module _ {T ID D : Type 0} (k : Tests T ID D (Option D)) where
     pub are_logs : AreLogs (λ d. is_some (k.config_of d)) p.logs
     pub have_logs : HaveLogs p
     pub placed : ArePlaced k.rank p.places p.leaders
+    pub bounded : AreBounded p.committed p.leaders
     pub unused : (d : D) → AgreeOn d es p
     pub seen : HasSeen es (servers_in p) (leaders_in p)
 
@@ -119,6 +120,7 @@ kept_by c = record {
   servers = c.servers.items;
   leaders = c.leaders.items;
   places = c.places.entries;
+  committed = c.committed;
 }
 
 -- an event is refused for the rule that it breaks, or for memory

@@ -1,8 +1,8 @@
 //! The checker of recorded events: whether each event was allowed by what came before.
-ghost use Rattle.std.specs.Prelude.{◌≡◌, ◌<◌, IfOk, OnErr, length, map};
+ghost use Rattle.std.specs.Prelude.{◌≡◌, ◌<◌, IfOk, OnErr, drop, length, map};
 ghost use Rattle.std.specs.List.{list_any};
 ghost use Rattle.raft_safety.specs.Inner.CheckerState.{knows, same_entry_by};
-ghost use Rattle.raft_safety.specs.Inner.Kept.{IsAt, leader_in};
+ghost use Rattle.raft_safety.specs.Inner.Kept.{AreBounded, IsAt, leader_in};
 ghost use Rattle.raft_safety.specs.Inner.Logs.{AreDistinct, IsExact, log_at};
 ghost use Rattle.raft_safety.specs.Checker.{Answers, Begins, Records, configs_of, event_of, kept_by, tests_of};
 ghost use Rattle.raft_safety.specs.Trace.{Campaigned, Granted, Appended, Acked, Restarted, Wrote, Committed, Applied};
@@ -51,6 +51,8 @@ pub struct Checker<T, N, D, C> {
     leaders: VecDeque<Leader<T, N>>,
     /// By it the leaders of a rank are found.
     places: Places,
+    /// No leader has committed more entries.
+    committed: usize,
     alloc: Global,
 }
 
@@ -73,6 +75,7 @@ impl<T: Term, N: Copy + Eq, D: Copy + Eq, C: Configs<N, D> + Drop> Checker<T, N,
             servers: Vec::new(alloc),
             leaders: VecDeque::new(alloc),
             places: Places::new(alloc),
+            committed: 0,
             alloc,
         })
     }
@@ -338,6 +341,7 @@ impl<T: Term, N: Copy + Eq, D: Copy + Eq, C: Configs<N, D> + Drop> Checker<T, N,
             return Err(Violation::Rule(Rule::NoQuorum));
         }
         self.leaders[j].commit(len);
+        self.committed = self.committed.max(len);
         Ok(())
     }
 
@@ -358,25 +362,60 @@ impl<T: Term, N: Copy + Eq, D: Copy + Eq, C: Configs<N, D> + Drop> Checker<T, N,
             None => {}
         }
         let prefix = self.logs.first(self.leaders[j].log, len);
-        if !any_knows(&self.logs, &self.leaders, term.rank(), prefix) {
+        if !any_knows(
+            &self.logs,
+            &self.leaders,
+            self.committed,
+            j,
+            term.rank(),
+            prefix,
+        ) {
             return Err(Violation::Rule(Rule::NotCommitted));
         }
         Ok(())
     }
 }
 
-/// Whether a leader of a term of at most this rank has committed these entries.
+/// Whether a leader of a term of at most this rank has committed these entries. No leader has
+/// committed more entries than `most`. The search begins with the leader at position `near`.
 fn any_knows<T: Term, N: Copy + Eq, D: Copy + Eq>(
     logs: &Logs<T, D>,
     leaders: &VecDeque<Leader<T, N>>,
+    most: usize,
+    near: usize,
+    rank: u128,
+    prefix: usize,
+) -> bool
+    ensures { AreBounded most leaders.now.items → IsExact (same_entry_by T.eq D.eq) →
+        AreDistinct logs.now → result
+        ≡ list_any (knows T.rank (same_entry_by T.eq D.eq) rank (log_at logs.now prefix))
+        (map (leader_in logs.now) leaders.now.items) }
+{
+    // If a server waits for a commit, the entries that it applies are past all commits.
+    if most < logs.len(prefix) {
+        return false;
+    }
+    // The leader of the term, or one shortly before it, has committed most entries.
+    if knows_from(logs, leaders, near, rank, prefix) {
+        return true;
+    }
+    knows_from(logs, leaders, 0, rank, prefix)
+}
+
+/// Whether a leader of a term of at most this rank, at this position or a later one, has committed
+/// these entries.
+fn knows_from<T: Term, N: Copy + Eq, D: Copy + Eq>(
+    logs: &Logs<T, D>,
+    leaders: &VecDeque<Leader<T, N>>,
+    from: usize,
     rank: u128,
     prefix: usize,
 ) -> bool
     ensures { IsExact (same_entry_by T.eq D.eq) → AreDistinct logs.now → result
         ≡ list_any (knows T.rank (same_entry_by T.eq D.eq) rank (log_at logs.now prefix))
-        (map (leader_in logs.now) leaders.now.items) }
+        (drop from (map (leader_in logs.now) leaders.now.items)) }
 {
-    for j in 0..leaders.len() {
+    for j in from..leaders.len() {
         if knows(logs, &leaders[j], rank, prefix) {
             return true;
         }

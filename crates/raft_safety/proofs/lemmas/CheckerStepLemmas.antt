@@ -99,6 +99,7 @@ use Rattle.raft_safety.specs.Inner.CheckerState.{
   apply_rule,
 }
 use Rattle.raft_safety.specs.Inner.Kept.{
+  AreBounded,
   HaveLogs,
   IsAt,
   IsPushed,
@@ -129,6 +130,7 @@ use Rattle.raft_safety.specs.declared.checker.leader.Leader.{Leader}
 use Rattle.raft_safety.proofs.lemmas.TestLemmas.{entry_itself, entry_right}
 use Rattle.raft_safety.proofs.lemmas.CheckedLeaderLemmas.{found_some}
 use Rattle.raft_safety.proofs.lemmas.PlaceLemmas.{placed_more, placed_set}
+use Rattle.raft_safety.proofs.lemmas.CommitLemmas.{bounded_commit, bounded_more, bounded_same}
 use Rattle.raft_safety.proofs.lemmas.ContentLemmas.{lack_append, lack_second}
 use Rattle.raft_safety.proofs.lemmas.CheckerLemmas.{
   LeaderIs,
@@ -238,19 +240,23 @@ module _ {D : Type 0} (holds : D → Bool) where
 module _ {T N D : Type 0} where
   -- other servers, another server or another leader
   abbrev pub with_servers : Parts T N D → List (Server N) → Parts T N D
-  with_servers p new = record { logs = p.logs; servers = new; leaders = p.leaders; places = p.places }
+  with_servers p new = record { logs = p.logs; servers = new; leaders = p.leaders; places = p.places; committed = p.committed }
 
   abbrev pub with_server : Parts T N D → ℕ → Server N → Parts T N D
   with_server p i s = with_servers p (set p.servers i s)
 
   abbrev pub with_leaders : Parts T N D → List (Leader T N) → Parts T N D
-  with_leaders p new = record { logs = p.logs; servers = p.servers; leaders = new; places = p.places }
+  with_leaders p new = record { logs = p.logs; servers = p.servers; leaders = new; places = p.places; committed = p.committed }
 
   abbrev pub with_leader : Parts T N D → ℕ → Leader T N → Parts T N D
   with_leader p j l = with_leaders p (set p.leaders j l)
 
+  -- another number of entries such that no leader has committed more
+  abbrev pub with_committed : Parts T N D → ℕ → Parts T N D
+  with_committed p n = record { logs = p.logs; servers = p.servers; leaders = p.leaders; places = p.places; committed = n }
+
   abbrev pub with_places : Parts T N D → List (ℕ × (ℕ × ℕ)) → Parts T N D
-  with_places p new = record { logs = p.logs; servers = p.servers; leaders = p.leaders; places = new }
+  with_places p new = record { logs = p.logs; servers = p.servers; leaders = p.leaders; places = new; committed = p.committed }
 
   have_server : (p : Parts T N D) (i : ℕ) (new : Server N) → HaveLogs p → i < length p.servers
       → new.log < length p.logs.logs → HaveLogs (with_server p i new)
@@ -328,7 +334,8 @@ module _ {T ID D : Type 0} (k : Tests T ID D (Option D)) where
   no_entry d zero = tt
   no_entry d (suc i) = tt
 
-  pub starts : k.intersect k.initial k.initial ≡ true → Keeps k [] (record { logs = no_logs; servers = []; leaders = []; places = [] })
+  pub starts : k.intersect k.initial k.initial ≡ true
+      → Keeps k [] (record { logs = no_logs; servers = []; leaders = []; places = []; committed = 0 })
   starts intersect = record {
     are_logs = no_logs_are (λ d. is_some (k.config_of d)) T;
     have_logs = record {
@@ -336,6 +343,7 @@ module _ {T ID D : Type 0} (k : Tests T ID D (Option D)) where
       of_leaders = λ i l h e. absurd (omega (arith, h));
     };
     placed = λ i l h e. absurd (omega (arith, h));
+    bounded = λ i n l h e q. absurd (omega (arith, h));
     unused = λ d. (λ without. tt, λ u i h. no_entry d i);
     seen = record {
       allowed = intersect;
@@ -428,6 +436,7 @@ module _ {T ID D : Type 0} (k : Tests T ID D (Option D)) (exact : AreExact k) wh
     are_logs = keeps.are_logs;
     have_logs = have_at p id new i keeps.are_logs.some keeps.have_logs at;
     placed = keeps.placed;
+    bounded = keeps.bounded;
     unused = keeps.unused;
     seen = see_place k exact es id (servers_in p) (map (server_in p.logs) new) i (leaders_in p)
         (at_place p id new i keeps.are_logs.empty at) keeps.seen;
@@ -471,24 +480,27 @@ module _ {T ID D : Type 0} (k : Tests T ID D (Option D)) (exact : AreExact k) wh
     are_logs = keeps.are_logs;
     have_logs = have_server p i new keeps.have_logs at within;
     placed = keeps.placed;
+    bounded = keeps.bounded;
     unused = unused;
     seen = subst (λ (l : List (ServerState T ID D)). HasSeen k es l (leaders_in p))
         (sym (map-set (server_in p.logs) p.servers i new)) seen;
   }
 
-  keeps_leader : (es : List (TraceEvent T ID D)) (p : Parts T ID D) (j : ℕ) (l new : Leader T ID)
+  keeps_leader : (es : List (TraceEvent T ID D)) (p : Parts T ID D) (j most : ℕ) (l new : Leader T ID)
       → j < length p.leaders → l ≡ get_or p.leaders j l → new.term ≡ l.term → new.log < length p.logs.logs
       → HasSeen k es (servers_in p) (set (leaders_in p) j (leader_in p.logs new))
-      → ((d : D) → AgreeOn k d es p)
-      → (old : List (TraceEvent T ID D)) → Keeps k old p → Keeps k es (with_leader p j new)
-  keeps_leader es p j l new at is same within seen unused old keeps = record {
-    are_logs = keeps.are_logs;
-    have_logs = have_leader p j new keeps.have_logs at within;
-    placed = placed_set k.rank p.places p.leaders j l new at is same keeps.placed;
-    unused = unused;
-    seen = subst (λ (l : List (LeaderState T ID D)). HasSeen k es (servers_in p) l)
-        (sym (map-set (leader_in p.logs) p.leaders j new)) seen;
-  }
+      → ((d : D) → AgreeOn k d es p) → AreBounded most (set p.leaders j new)
+      → (old : List (TraceEvent T ID D)) → Keeps k old p → Keeps k es (with_committed (with_leader p j new) most)
+  keeps_leader es p j most l new at is same within seen unused bounded old keeps =
+      let have : HaveLogs (with_leader p j new) = have_leader p j new keeps.have_logs at within in record {
+        are_logs = keeps.are_logs;
+        have_logs = record { of_servers = have.of_servers; of_leaders = have.of_leaders };
+        placed = placed_set k.rank p.places p.leaders j l new at is same keeps.placed;
+        bounded = bounded;
+        unused = unused;
+        seen = subst (λ (l : List (LeaderState T ID D)). HasSeen k es (servers_in p) l)
+            (sym (map-set (leader_in p.logs) p.leaders j new)) seen;
+      }
 
   log_of_server : (es : List (TraceEvent T ID D)) (p : Parts T ID D) (i : ℕ) (s : Server ID)
       → Keeps k es p → i < length p.servers → s ≡ get_or p.servers i s → s.log < length p.logs.logs
@@ -674,8 +686,9 @@ module _ {T ID D : Type 0} (k : Tests T ID D (Option D)) (exact : AreExact k) wh
       → LeaderIs (leader_in p.logs new) l.term l.id l.start (log_at p.logs l.log) l.voters.items l.elected l.committed
       → new.log ≡ l.log → Keeps k es (with_leader p j new)
   same_leader_again es p t c j l new at is keeps acked same log =
-      keeps_leader es p j l new within is same.term (rw log (keeps.have_logs.of_leaders j l within is))
-      (subst (λ (x : List (LeaderState T ID D)). HasSeen k es (servers_in p) x) (sym back) keeps.seen) keeps.unused es keeps
+      keeps_leader es p j p.committed l new within is same.term (rw log (keeps.have_logs.of_leaders j l within is))
+      (subst (λ (x : List (LeaderState T ID D)). HasSeen k es (servers_in p) x) (sym back) keeps.seen) keeps.unused
+      (bounded_same p.committed p.leaders j l new within is same.committed keeps.bounded) es keeps
     where
       within : j < length p.leaders
       within = within_of (is_leader t c) p.leaders j l at
@@ -755,11 +768,12 @@ module _ {T ID D : Type 0} (k : Tests T ID D (Option D)) (exact : AreExact k) wh
       → i < length p.servers → j < length p.leaders → l ≡ get_or p.leaders j l → lnew.term ≡ l.term
       → new.log < length p.logs.logs → lnew.log < length p.logs.logs
       → HasSeen k es (set (servers_in p) i (server_in p.logs new)) (set (leaders_in p) j (leader_in p.logs lnew))
-      → ((d : D) → AgreeOn k d es p)
+      → ((d : D) → AgreeOn k d es p) → lnew.committed ≡ l.committed
       → (old : List (TraceEvent T ID D)) → Keeps k old p → Keeps k es (with_leader (with_server p i new) j lnew)
-  keeps_both es p i j new l lnew at at_j is same within within_j seen unused old keeps = record {
+  keeps_both es p i j new l lnew at at_j is same within within_j seen unused commits old keeps = record {
     are_logs = keeps.are_logs;
     placed = placed_set k.rank p.places p.leaders j l lnew at_j is same keeps.placed;
+    bounded = bounded_same p.committed p.leaders j l lnew at_j is commits keeps.bounded;
     unused = unused;
     have_logs = have_leader (with_server p i new) j lnew (have_server p i new keeps.have_logs at within) at_j within_j;
     seen = subst (λ (x : List (LeaderState T ID D)). HasSeen k es (servers_in (with_server p i new)) x)
@@ -801,7 +815,7 @@ module _ {T ID D : Type 0} (k : Tests T ID D (Option D)) (exact : AreExact k) wh
         keeps_both (Acked id t c n ∷ es) p i j new l lnew within within_j is_l (ap (λ (x : Leader T ID). x.term) same)
             (rw (ap (λ (x : Server ID). x.log) rest) (keeps.have_logs.of_servers i s within is))
             (rw (ap (λ (x : Leader T ID). x.log) same) (keeps.have_logs.of_leaders j l within_j is_l))
-            done.1 keeps.unused es keeps,
+            done.1 keeps.unused (ap (λ (x : Leader T ID). x.committed) same) es keeps,
       )
 
   -- ---- votes
@@ -869,7 +883,7 @@ module _ {T ID D : Type 0} (k : Tests T ID D (Option D)) (exact : AreExact k) wh
         keeps_both (Granted id t c ∷ es) p i j new l lnew within within_j is_l (ap (λ (x : Leader T ID). x.term) same)
             (rw reached.log (keeps.have_logs.of_servers i s within is))
             (rw (ap (λ (x : Leader T ID). x.log) same) (keeps.have_logs.of_leaders j l within_j is_l))
-            done.1 keeps.unused es keeps,
+            done.1 keeps.unused (ap (λ (x : Leader T ID). x.committed) same) es keeps,
       )
 
   pub late_vote_done : (es : List (TraceEvent T ID D)) (id : ID) (t : T) (c : ID)
@@ -975,6 +989,7 @@ module _ {T ID D : Type 0} (k : Tests T ID D (Option D)) (exact : AreExact k) wh
           are_logs = keeps.are_logs;
           have_logs = record { of_servers = have.of_servers; of_leaders = have.of_leaders };
           placed = placed_more k.rank p.places places p.leaders lnew (k.rank t) (ap k.rank same.term) here others keeps.placed;
+          bounded = bounded_more p.committed p.leaders lnew same.committed keeps.bounded;
           unused = keeps.unused;
           seen = subst (λ (x : List (ServerState T ID D)). HasSeen k (Campaigned c t ∷ es) x (leader_in p.logs lnew ∷ leaders_in p))
               (sym (map-set (server_in p.logs) p.servers i new)) done.1;
@@ -1002,7 +1017,13 @@ module _ {T ID D : Type 0} (k : Tests T ID D (Option D)) (exact : AreExact k) wh
       → (log : ℕ) → IsChild (λ d. is_some (k.config_of d)) p.logs l1.log e logs log
       → lnew ≡ record l { log = log }
       → (broken_rule k (Wrote c t e) es ≡ None)
-      × Keeps k (Wrote c t e ∷ es) (record { logs = logs; servers = p.servers; leaders = set p.leaders j lnew; places = p.places })
+      × Keeps k (Wrote c t e ∷ es) (record {
+        logs = logs;
+        servers = p.servers;
+        leaders = set p.leaders j lnew;
+        places = p.places;
+        committed = p.committed;
+      })
   write_done es t c e p j logs l0 l1 l lnew holds is_holds initial at_j is_l0 is_l1 is_l keeps free log child rest =
       let is_log : lnew.log ≡ log = ap (λ (x : Leader T ID). x.log) rest in
       let within_j : j < length p.leaders = within_of (is_leader t c) p.leaders j l at_j in
@@ -1030,7 +1051,13 @@ module _ {T ID D : Type 0} (k : Tests T ID D (Option D)) (exact : AreExact k) wh
       same_servers p.logs logs p.servers (λ i s h is. child.kept s.log (keeps.have_logs.of_servers i s h is)) in
       let same_l : map (leader_in logs) p.leaders ≡ leaders_in p =
       same_leaders p.logs logs p.leaders (λ i x h is. child.kept x.log (keeps.have_logs.of_leaders i x h is)) in
-      let grown : Parts T ID D = record { logs = logs; servers = p.servers; leaders = p.leaders; places = p.places } in
+      let grown : Parts T ID D = record {
+        logs = logs;
+        servers = p.servers;
+        leaders = p.leaders;
+        places = p.places;
+        committed = p.committed;
+      } in
       let have : HaveLogs grown = record {
         of_servers = λ i s h is.
             (let o : s.log < length p.logs.logs = keeps.have_logs.of_servers i s h is in omega (arith, o, child.more));
@@ -1042,6 +1069,8 @@ module _ {T ID D : Type 0} (k : Tests T ID D (Option D)) (exact : AreExact k) wh
           are_logs = child.logs;
           have_logs = have_leader grown j lnew have within_j (rw is_log child.within);
           placed = placed_set k.rank p.places p.leaders j l lnew within_j is_l (ap (λ (x : Leader T ID). x.term) rest) keeps.placed;
+          bounded = bounded_same p.committed p.leaders j l lnew within_j is_l (ap (λ (x : Leader T ID). x.committed) rest)
+              keeps.bounded;
           unused = λ d. (
             λ without. (
               (lack_second k.same_content d (log_at p.logs l1.log) (e ∷ [])
@@ -1151,10 +1180,11 @@ module _ {T ID D : Type 0} (k : Tests T ID D (Option D)) (exact : AreExact k) wh
       → config ≡ effective_config k.config_of k.initial (take m (log_at p.logs l2.log))
       → quorum ≡ k.quorum_of config (is_member k.same_id ids) → quorum ≡ true
       → lnew ≡ record l3 { committed = Some (max (unwrap_or l3.committed 0) n) }
+      → (most : ℕ) → most ≡ max p.committed n
       → (broken_rule k (Committed c t n m) es ≡ None)
-      × Keeps k (Committed c t n m ∷ es) (with_leader p j lnew)
+      × Keeps k (Committed c t n m ∷ es) (with_committed (with_leader p j lnew) most)
   commit_done es t c n m p j l l1 l2 l3 lnew ids config quorum at_j is is1 is2 is3 keeps free members is_config counted enough
-      rest =
+      rest most is_most =
       let tested : broken_rule k (Committed c t n m) es ≡ unless quorum NoQuorum None =
       commit_tested es t c n m p j l l1 l2 ids config quorum at_j is is1 is2 keeps free members is_config counted in
       let within : j < length p.leaders = within_of (is_leader t c) p.leaders j l at_j in
@@ -1174,8 +1204,10 @@ module _ {T ID D : Type 0} (k : Tests T ID D (Option D)) (exact : AreExact k) wh
         committed = ap (λ (x : Leader T ID). x.committed) rest;
       }) in (
         done.0,
-        keeps_leader (Committed c t n m ∷ es) p j l3 lnew within is3 (ap (λ (x : Leader T ID). x.term) rest)
-            (rw (ap (λ (x : Leader T ID). x.log) rest) (keeps.have_logs.of_leaders j l3 within is3)) done.1 keeps.unused es keeps,
+        keeps_leader (Committed c t n m ∷ es) p j most l3 lnew within is3 (ap (λ (x : Leader T ID). x.term) rest)
+            (rw (ap (λ (x : Leader T ID). x.log) rest) (keeps.have_logs.of_leaders j l3 within is3)) done.1 keeps.unused
+            (rw is_most (bounded_commit p.committed p.leaders j n l3 lnew within is3
+            (ap (λ (x : Leader T ID). x.committed) rest) keeps.bounded)) es keeps,
       )
 
   -- ---- what is applied
@@ -1259,6 +1291,7 @@ module _ {T ID D : Type 0} (k : Tests T ID D (Option D)) (exact : AreExact k) wh
           are_logs = keeps.are_logs;
           have_logs = keeps.have_logs;
           placed = keeps.placed;
+          bounded = keeps.bounded;
           unused = keeps.unused;
           seen = done.1;
         },

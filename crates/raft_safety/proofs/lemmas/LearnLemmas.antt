@@ -609,6 +609,7 @@ module _ {T ID D : Type 0} (k : Tests T ID D (Option D)) (config_of : D → Opti
           are_logs = logs_still p.logs without keeps.are_logs;
           have_logs = keeps.have_logs;
           placed = keeps.placed;
+          bounded = keeps.bounded;
           unused = keeps.unused;
           seen = record {
             allowed = same_allowed es new ∙ keeps.seen.allowed;

@@ -5,6 +5,8 @@ use Rattle.std.specs.Prelude.{
   ◌<◌,
   ◌≤◌,
   ℕ,
+  zero,
+  suc,
   nat_lt,
   Bool,
   true,
@@ -35,25 +37,36 @@ use Rattle.raft_safety.specs.declared.checker.leader.Acked.{Acked}
 use Rattle.raft_safety.specs.Memberships.{held_by}
 
 -- if an element fails, some element passes exactly if one of the later elements does
-pub any_later : {X : Type 0} (p : X → Bool) (xs : List X) (i : ℕ) (x : X) → i < length xs
-    → x ≡ get_or xs i x → p x ≡ false → list_any p (drop i xs) ≡ list_any p xs
-    → list_any p (drop (i + 1) xs) ≡ list_any p xs
+pub any_later : {X : Type 0} {r : Bool} (p : X → Bool) (xs : List X) (i : ℕ) (x : X) → i < length xs
+    → x ≡ get_or xs i x → p x ≡ false → list_any p (drop i xs) ≡ r → list_any p (drop (i + 1) xs) ≡ r
 any_later p xs i x h is fails so_far =
     ap (λ b. b || list_any p (drop (i + 1) xs)) (sym fails ∙ ap p is)
     ∙ ap (list_any p) (sym (drop_more xs i x h)) ∙ so_far
 
 -- if an element passes, some element passes
-pub any_here : {X : Type 0} (p : X → Bool) (xs : List X) (i : ℕ) (x : X) → i < length xs
-    → x ≡ get_or xs i x → p x ≡ true → list_any p (drop i xs) ≡ list_any p xs
-    → true ≡ list_any p xs
+pub any_here : {X : Type 0} {r : Bool} (p : X → Bool) (xs : List X) (i : ℕ) (x : X) → i < length xs
+    → x ≡ get_or xs i x → p x ≡ true → list_any p (drop i xs) ≡ r → true ≡ r
 any_here p xs i x h is passes so_far =
     ap (λ b. b || list_any p (drop (i + 1) xs)) (sym passes ∙ ap p is)
     ∙ ap (list_any p) (sym (drop_more xs i x h)) ∙ so_far
 
 -- if no element is left and none has passed, none passes
-pub any_nowhere : {X : Type 0} (p : X → Bool) (xs : List X) (i : ℕ) → length xs ≤ i
-    → list_any p (drop i xs) ≡ list_any p xs → false ≡ list_any p xs
+pub any_nowhere : {X : Type 0} {r : Bool} (p : X → Bool) (xs : List X) (i : ℕ) → length xs ≤ i
+    → list_any p (drop i xs) ≡ r → false ≡ r
 any_nowhere p xs i h so_far = sym (ap (list_any p) (drop_all i xs h)) ∙ so_far
+
+-- if one of the later elements passes, some element passes
+pub any_after : {X : Type 0} (p : X → Bool) (xs : List X) (i : ℕ) → true ≡ list_any p (drop i xs)
+    → true ≡ list_any p xs
+any_after p [] zero h = h
+any_after p [] (suc i) h = h
+any_after p (x ∷ xs) zero h = h
+any_after p (x ∷ xs) (suc i) h =
+    or_true (p x) (list_any p xs) (any_after p xs i h)
+  where
+    or_true : (a b : Bool) → true ≡ b → true ≡ (a || b)
+    or_true true b e = refl
+    or_true false b e = e
 
 -- if an element has another content, a later element holds the membership of the content
 pub held_later : {X Q D : Type 0} (same : D → D → Bool) (d : D) (f : X → D × List Q) (xs : List X)

@@ -1,17 +1,19 @@
 -- What a checker keeps, and what it stands for.
-use Rattle.std.specs.Prelude.{◌≡◌, ◌⊎◌, ◌<◌, ℕ, Bool, Some, None, List, [], ◌∷◌, ◌++◌, length, map, get_or}
+use Rattle.std.specs.Prelude.{◌≡◌, ◌⊎◌, ◌<◌, ◌≤◌, ℕ, Bool, Some, None, List, [], ◌∷◌, ◌++◌, length, map, get_or}
 use Rattle.std.specs.List.{position}
 use Rattle.raft_safety.specs.Inner.CheckerState.{ServerState, LeaderState}
 use Rattle.raft_safety.specs.Inner.Logs.{AllLogs, log_at}
 use Rattle.raft_safety.specs.declared.checker.server.Server.{Server}
 use Rattle.raft_safety.specs.declared.checker.leader.Leader.{Leader}
 
--- the logs, the servers and the leaders of a checker, and the numbers of each rank's leaders
+-- the logs, the servers and the leaders of a checker, the numbers of each rank's leaders, and a number
+-- of entries such that no leader has committed more
 pub record Parts (T N D : Type 0) : Type 0 where
   pub logs : AllLogs T D
   pub servers : List (Server N)
   pub leaders : List (Leader T N)
   pub places : List (ℕ × (ℕ × ℕ))
+  pub committed : ℕ
 
 module _ {T N D : Type 0} where
   -- what is kept of a server, with the entries of its log
@@ -50,6 +52,12 @@ module _ {T N D : Type 0} where
         → s.log < length p.logs.logs
     pub of_leaders : (i : ℕ) (l : Leader T N) → i < length p.leaders → l ≡ get_or p.leaders i l
         → l.log < length p.logs.logs
+
+-- no leader has committed more entries than this number
+abbrev pub AreBounded : {T N : Type 0} → ℕ → List (Leader T N) → Type 0
+AreBounded {T} {N} most leaders =
+    (i n : ℕ) (l : Leader T N) → i < length leaders → l ≡ get_or leaders i l → l.committed ≡ Some n
+    → n ≤ most
 
 -- nothing is kept of a server
 pub record IsNew {N : Type 0} (id : N) (s : Server N) : Type 0 where

@@ -40,7 +40,7 @@ returns-then-not-any_knows-clause-answer g c =
     c.in_ok-i.ensures.at.0 c.index.ensures (sym (c.in-Some.ensures.place exact.same_term keeps.placed)) c.index-2.ensures c.index-3.ensures
     (keeps_at _ exact es c.args.server (kept_by c.args.self.now) c.server_at.new.servers.items c.in_ok-i.i c.in_ok-i.ensures.at keeps)
     (sym (c.in-None-apply_rule.ensures (exact_entries _ exact) keeps.are_logs.distinct)) c.first-prefix.ensures.first
-    (rw c.rank.ensures at (c.any_knows.ensures (exact_entries _ exact) keeps.are_logs.distinct))
+    (rw c.rank.ensures at (c.any_knows.ensures keeps.bounded (exact_entries _ exact) keeps.are_logs.distinct))
     c.if-not-any_knows.true
 
 pub returns-clause-answer : goal.returns-clause-answer
@@ -51,7 +51,7 @@ returns-clause-answer g c =
     c.in_ok-i.ensures.at.0 c.index.ensures (sym (c.in-Some.ensures.place exact.same_term keeps.placed)) c.index-2.ensures c.index-3.ensures
     (keeps_at _ exact es c.args.server (kept_by c.args.self.now) c.server_at.new.servers.items c.in_ok-i.i c.in_ok-i.ensures.at keeps)
     (sym (c.in-None-apply_rule.ensures (exact_entries _ exact) keeps.are_logs.distinct)) c.first-prefix.ensures.first
-    (rw c.rank.ensures at (c.any_knows.ensures (exact_entries _ exact) keeps.are_logs.distinct))
+    (rw c.rank.ensures at (c.any_knows.ensures keeps.bounded (exact_entries _ exact) keeps.are_logs.distinct))
     c.if-not-any_knows.false
 
 pub index-requires : goal.index-requires

@@ -56,4 +56,4 @@ returns-clause-answer g c =
     omega (arith, own, c.first.ensures.earlier))
     ∙ ap (λ x. effective_config (config_in (g.C.Configs.holds_config c.args.self.now.configs)) None x) c.first.ensures.first)
     (rw c.deref.ensures.value at c.is_quorum.ensures c.in_ok-servers.ensures.distinct) c.if-not-is_quorum.false
-    c.commit.ensures
+    c.commit.ensures _ c.max-self.ensures

@@ -3,7 +3,7 @@ use Rattle.std.specs.List.{list_any}
 use Rattle.raft_safety.specs.Inner.CheckerState.{knows, same_entry_by}
 use Rattle.raft_safety.specs.Inner.Kept.{leader_in}
 use Rattle.raft_safety.specs.Inner.Logs.{AreDistinct, IsExact, log_at}
-use Rattle.raft_safety.proofs.checker.any_knows.Given as goal
+use Rattle.raft_safety.proofs.checker.knows_from.Given as goal
 
 abbrev pub invariant-loop-j : goal.invariant-loop-j
 invariant-loop-j g l =
@@ -11,4 +11,4 @@ invariant-loop-j g l =
     → list_any (knows g.T.Term.rank (same_entry_by g.T.PartialEq.eq g.D.PartialEq.eq) l.rank (log_at l.logs l.prefix))
     (drop l.j (map (leader_in l.logs) l.leaders.items))
     ≡ list_any (knows g.T.Term.rank (same_entry_by g.T.PartialEq.eq g.D.PartialEq.eq) l.rank (log_at l.logs l.prefix))
-    (map (leader_in l.logs) l.leaders.items)
+    (drop l.from (map (leader_in l.logs) l.leaders.items))
