@@ -11,7 +11,7 @@ ghost use Rattle.raft_progress.specs.tracked.Over.{over};
 ghost use Rattle.raft_progress.specs.tracked.TrackedNew.{BeginsOver};
 ghost use Rattle.raft_progress.specs.tracked.TrackedState.{IsReady, has_quorum, is_voter};
 
-use super::learners_of;
+use super::{learners_of, sides_of};
 use crate::progress::{Progress, ProgressPart, VecProgress};
 use raft_base::{Node, NodeId};
 use raft_members::membership::{Configs, Membership};
@@ -84,6 +84,9 @@ impl<NID: NodeId, V: ProgressPart<P>, P: Copy + Ord> VecProgress<NID, V, P, Conf
         let alloc = *membership.get_joint_config().allocator();
         let configs = membership.to_quorum_set()?;
         let learners = learners_of(alloc, membership)?;
-        self.upgrade_quorum_set(configs, &learners, default)
+        let mut made = VecProgress::new(alloc, configs, &learners, default)?;
+        let sides = sides_of(membership, &made)?;
+        made.take_over(self, sides.as_ref())?;
+        Ok(made)
     }
 }
