@@ -94,3 +94,49 @@ fn places_events_until_none_is_allowed(rt: HostRuntime) -> Result<(), Fail> {
     }
     Ok(())
 }
+
+/// Returns lists of which the last one waits for no other. Server 0 leads in term 1, and commits the
+/// first of its two entries. Server 1 leads in term 2, and commits another second entry. Server 2
+/// takes both entries of server 0, and applies so many of them.
+fn late_server(alloc: Global, len: usize) -> Result<Vec<Vec<Recorded>>, AllocError> {
+    let mut lists = vec![in alloc; leader(alloc)?, follower(alloc)?, Vec::new(alloc)]?;
+    lists[0].push(wrote(0, 1, (1, 11)))?;
+    lists[0].push(granted(0, 2, 1))?;
+    lists[0].push(appended(alloc, (0, 2, 1), 1, (2, 20))?)?;
+    lists[0].push(acked(0, 2, 1, 2))?;
+    lists[1].push(campaigned(1, 2))?;
+    lists[1].push(wrote(1, 2, (2, 20)))?;
+    lists[1].push(appended(alloc, (1, 2, 1), 1, (2, 20))?)?;
+    lists[1].push(acked(1, 2, 1, 2))?;
+    lists[1].push(committed(1, 2, 2, 2))?;
+    lists[2].push(appended(alloc, (2, 1, 0), 0, (1, 10))?)?;
+    lists[2].push(appended(alloc, (2, 1, 0), 1, (1, 11))?)?;
+    lists[2].push(applied(2, 1, 0, len))?;
+    Ok(lists)
+}
+
+/// Returns what events were refused for, if not all were placed.
+fn violation_of(outcome: &Result<(), Unplaced>) -> Option<Violation> {
+    match outcome {
+        Ok(()) => None,
+        Err(e) => Some(e.violation),
+    }
+}
+
+/// The events of server 2 are placed after the leader of a later term has committed two entries.
+#[test]
+fn a_late_server_applies_what_its_leader_has_committed(rt: HostRuntime) -> Result<(), Fail> {
+    let alloc = rt.alloc();
+    for (name, len, refused) in [
+        ("a committed entry", 1, None),
+        (
+            "an entry that is not committed",
+            2,
+            Some(Violation::Rule(Rule::NotCommitted)),
+        ),
+    ] {
+        let outcome = check_each(alloc, three(alloc)?, &late_server(alloc, len)?);
+        assert!(rt; violation_of(&outcome) == refused, "{name}");
+    }
+    Ok(())
+}
