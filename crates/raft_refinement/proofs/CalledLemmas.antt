@@ -16,10 +16,14 @@ use Rattle.std.specs.Prelude.{
   Ok,
   Err,
   IfOk,
+  if◌then◌else◌,
 }
-use Rattle.std.proofs.Common.{sym, ap, subst, ◌∙◌}
+use Rattle.std.specs.Ordering.{partial_ge}
+use Rattle.std.proofs.Common.{sym, ap, subst, ◌∙◌, inl, inr}
 use Rattle.std.proofs.lemmas.Bool.{and_parts}
 use Rattle.raft_base.specs.LogId.{next_index}
+use Rattle.raft_base.specs.UTime.{moment_of, utime_of}
+use Rattle.raft_base.specs.Vote.{vote_cmp}
 use Rattle.raft_base.specs.declared.log_id.LogIdOf.{LogIdOf}
 use Rattle.raft_base.specs.declared.vote.VoteIn.{VoteIn}
 use Rattle.raft_handlers.specs.Append.{Answers, IfHigherVote}
@@ -62,6 +66,7 @@ use Rattle.raft_refinement.specs.Called.{
   CommitIsStep,
   CountIsStep,
   ElectionIsStep,
+  HearingIsStep,
   InstallIsStep,
   ProposalIsStep,
   RestartIsStep,
@@ -78,6 +83,7 @@ use Rattle.raft_refinement.specs.Running.{
   OneCommit,
   OneCount,
   OneElection,
+  OneHearing,
   OneProposal,
   OneRestart,
   OneSend,
@@ -214,6 +220,31 @@ module _ {K N L C : Type 0} (I D : Type 0) (ids : OrdMembers K) (node_eq : N →
       install_step request old new made.0.outcome keeps (λ none. same_outcome made _ (not_followed none)) followed answers
       (no_reason (snapshot_refusal kind.order logs.cmp logs.eq request.leader_id request.meta old) made refused)
   install_steps nothing request old new keeps (Err e) not_followed followed answers refused = tt
+
+  pub hearing_step : (vote : VoteIn L) (old new : RaftStateIn K N I L C) (promised : Bool) → Keeps logs old new
+      → promised ≡ partial_ge (vote_cmp kind.order) vote (vote_of old)
+      → new ≡ (if promised then record old { vote = utime_of vote (moment_of old.vote) } else old)
+      → HearingIsStep D ids node_eq kind logs vote old new
+  hearing_step vote old new promised keeps answer taken c s w v campaign response at over message has_vote =
+      steps c s w v old new _ _ at keeps
+      (OneHearing (record {
+        vote = vote;
+        response = response;
+        message = message;
+        has_vote = has_vote;
+        promised = promised;
+        answer = subst (λ (a : RaftStateIn K N I L C). promised ≡ partial_ge (vote_cmp kind.order) vote (vote_of a)) (sym at.before)
+            answer;
+        taken = both (λ (a b : RaftStateIn K N I L C). b
+            ≡ (if promised then record a { vote = utime_of vote (moment_of a.vote) } else a)) old new (w.servers s) (v.servers s)
+            at.before at.after taken;
+        campaign = is_over over;
+        sends = at.sent;
+      }))
+    where
+      is_over : (campaign ≡ w.campaigns s) ⊎ (campaign ≡ None) → (v.campaigns s ≡ w.campaigns s) ⊎ (v.campaigns s ≡ None)
+      is_over (inl same) = inl (at.has_campaign ∙ same)
+      is_over (inr none) = inr (at.has_campaign ∙ none)
 
   campaign_step : (s : K) (greatest : ℕ) (old new : RaftStateIn K N I L C) (made : Campaign K N L C) → Keeps logs old new
       → Campaigns (compared ids node_eq kind logs) s greatest old new made → CampaignIsStep D ids node_eq kind logs s old made new

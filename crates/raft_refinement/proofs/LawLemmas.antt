@@ -1,12 +1,12 @@
 -- The leader ids of a kind are ranked: what the traits promise is what the rules need.
-use Rattle.std.specs.Prelude.{◌≡◌, ◌+◌, ◌<◌, ℕ, true, List, [], ◌∷◌, map, Some, None}
+use Rattle.std.specs.Prelude.{◌≡◌, ◌⊎◌, ◌+◌, ◌<◌, ◌≤◌, ℕ, true, List, [], ◌∷◌, map, Some, None}
 use Rattle.std.specs.Cmp.{IsEquivalence, IsPartialOrder, IsTotalOrder}
 use Rattle.std.specs.Option.{option_map}
 use Rattle.std.specs.Ordering.{is_eq, is_le, is_lt, nat_cmp, ordering_reverse, partial_le}
 use Rattle.std.specs.declared.cmp.Ordering.{Ordering}
 use Rattle.std.specs.declared.cmp.Ordering.TheVariants.{Less, Equal, Greater}
 use Rattle.std.proofs.Common.{refl, sym, ap, ◌∙◌, inl, inr, arith}
-use Rattle.std.proofs.lemmas.Bool.{false≢true}
+use Rattle.std.proofs.lemmas.Bool.{cases_lt, false≢true}
 use Rattle.std.proofs.lemmas.Bool.Decides.{nat_tests}
 use Rattle.raft_handlers.specs.Compared.{LeaderMembers}
 use Rattle.raft_progress.specs.progress.Comparisons.{OrdMembers}
@@ -60,6 +60,24 @@ pub from_map : {X Y : Type 0} (f : X → Y) (y : Y) (xs : List X) → IsAmong y 
 from_map f y [] none = absurd none
 from_map f y (x ∷ xs) (inl e) = (x, inl refl, e)
 from_map f y (x ∷ xs) (inr a) = let r = from_map f y xs a in (r.0, inr r.1, r.2)
+
+-- leader ids that do not compare are of one term
+pub one_term : {K L C : Type 0} {ids : OrdMembers K} {kind : LeaderMembers L K C} {logs : OrdMembers C} → Laws ids kind logs
+    → (a b : L) → kind.order a b ≡ None → kind.term_of a ≡ kind.term_of b
+one_term {K} {L} {C} {ids} {kind} laws a b apart =
+    by (cases_lt (kind.term_of a) (kind.term_of b)) (cases_lt (kind.term_of b) (kind.term_of a))
+  where
+    none_there : (o : Ordering) → None ≡ Some o → ⊥
+    none_there o e = cc
+
+    differ : (kind.term_of a ≡ kind.term_of b → ⊥) → ⊥
+    differ other = none_there _ (sym apart ∙ laws.by_term a b other)
+
+    by : (kind.term_of a < kind.term_of b) ⊎ (kind.term_of b ≤ kind.term_of a)
+        → (kind.term_of b < kind.term_of a) ⊎ (kind.term_of a ≤ kind.term_of b) → kind.term_of a ≡ kind.term_of b
+    by (inl lt) o = absurd (differ (λ same. omega (arith, lt, same)))
+    by (inr le) (inl lt) = absurd (differ (λ same. omega (arith, lt, same)))
+    by (inr le) (inr ge) = omega (arith, le, ge)
 
 module _ {K L C : Type 0} {ids : OrdMembers K} {kind : LeaderMembers L K C} {logs : OrdMembers C} (laws : Laws ids kind logs)
     (exact : AreExact ids kind logs) (c : Cluster K L) (is : IsCluster kind c) where
@@ -170,6 +188,14 @@ module _ {K L C : Type 0} {ids : OrdMembers K} {kind : LeaderMembers L K C} {log
 
   pub in_terms : (l : L) → IsAmong l used → IsAmong (kind.committed l) terms
   in_terms l among = among_map kind.committed l used among
+
+  -- a leader id of a term after 0 is of a campaign, so it has a node
+  pub has_node : (l : L) → IsAmong l used → 0 < kind.term_of l → (n : K) × (kind.voted l ≡ Some n)
+  has_node l (inl e) term =
+      let zero_term = is.start_term in
+      let at : kind.term_of l ≡ kind.term_of c.start = ap kind.term_of e in
+      absurd (omega (arith, zero_term, at, term))
+  has_node l (inr among) term = is.node l among
 
   pub not_first : (l : L) → IsAmong l used → 0 < kind.term_of l → kind.committed l ≡ kind.committed c.start → ⊥
   not_first l (inl e) term same =

@@ -31,6 +31,9 @@ use Rattle.std.proofs.lemmas.List.{length-append}
 use Rattle.raft_base.specs.declared.log_id.LogIdOf.{LogIdOf}
 use Rattle.raft_base.specs.declared.vote.VoteIn.{VoteIn}
 use Rattle.raft_base.specs.LogId.{next_index}
+use Rattle.raft_base.specs.Vote.{vote_cmp}
+use Rattle.raft_handlers.specs.Follow.{elected}
+use Rattle.std.specs.Ordering.{partial_ge}
 use Rattle.raft_safety.specs.Log.{Entry, IsPrefix}
 use Rattle.raft_safety.specs.Events.{Ack, Append, Event, GrantVote, History, log_after, term_after}
 use Rattle.raft_safety.specs.Facts.{HasAcked, HasVoted, IsCommitted, IsElected}
@@ -44,7 +47,7 @@ use Rattle.raft_refinement.specs.Server.{IsIdAt, IsInLog, IsLastId, IsServer, Kn
 use Rattle.raft_refinement.specs.Voting.{IsAsked}
 use Rattle.raft_refinement.specs.Appending.{AllInLog, InLogIfAny, IsSent, IsSnapshotSent}
 use Rattle.raft_refinement.specs.Electing.{KnowsMatches}
-use Rattle.raft_refinement.proofs.Stepping.{SeenCluster, GoesOn, IsSeenCluster, IsMatched, IsPast, IsVoted, StepLeaves, at_server}
+use Rattle.raft_refinement.proofs.Stepping.{SeenCluster, GoesOn, IsSeenCluster, IsMatched, IsPast, IsPromised, IsVoted, StepLeaves, at_server}
 use Rattle.raft_refinement.proofs.Views.{
   SeenAgree,
   Commits,
@@ -52,6 +55,7 @@ use Rattle.raft_refinement.proofs.Views.{
   HandlesConflict,
   HandlesMatch,
   HandlesVote,
+  Hears,
   IsSeenFirst,
   IsMadeLeader,
   IsSeenRun,
@@ -62,7 +66,9 @@ use Rattle.raft_refinement.proofs.Views.{
   SeesConflict,
   SeesElection,
   SeesMatch,
+  SeesHearing,
   SeesPurge,
+  SeesRefusal,
   SeesRestart,
   SeesSendSnapshot,
   SeesSnapshot,
@@ -74,11 +80,13 @@ use Rattle.raft_refinement.proofs.Views.{
   SeesWrite,
   Campaigns,
   Purges,
+  Refuses,
   Restarts,
   SeenRunsAreSafe,
   Sends,
   SeenAsked,
   SeenVoted,
+  SeenPromised,
   SeenSent,
   SeenMatched,
   SeenWorld,
@@ -88,11 +96,13 @@ use Rattle.raft_refinement.proofs.Views.{
   SeesIdle,
 }
 use Rattle.raft_safety.proofs.lemmas.PrefixLemmas.{append-nil, prefix_itself, prefix_length, prefix_take, prefix_trans}
-use Rattle.raft_safety.proofs.lemmas.ServerLemmas.{voted_term}
+use Rattle.raft_safety.proofs.lemmas.ServerLemmas.{voted_once, voted_term}
 use Rattle.raft_safety.proofs.lemmas.ExecutionLemmas.{all_times_agree, execution_keeps_facts, step_keeps_facts}
 use Rattle.raft_refinement.proofs.AppendingLemmas.{at_within, get_within, index_found, prefix_get, take_get}
 use Rattle.raft_refinement.proofs.ElectingLemmas.{acked_less, commits_by_rule, own_past}
 use Rattle.raft_refinement.proofs.KnownLemmas.{leader_knows, part_known}
+use Rattle.raft_refinement.proofs.PlaceLemmas.{some_same}
+use Rattle.raft_refinement.proofs.VotingLemmas.{IsNoLesser, hears_by_rule, no_lesser}
 use Rattle.raft_refinement.proofs.SteppingLemmas.{
   Q,
   appends_are_steps,
@@ -129,6 +139,7 @@ module _ {L C K D M : Type 0} (c : SeenCluster L C K D M) where
   IsHonest h (SeenAsked vote last) =
       (r : K) → (c.kind.voted vote.leader_id ≡ Some r → ⊥) → IsAsked c.kind (at_server c h r) vote last
   IsHonest h (SeenVoted r vote) = IsVoted c h r vote
+  IsHonest h (SeenPromised vote) = IsPromised c h vote
   IsHonest h (SeenSent leader prev ids committed) = (r : K) → IsSent c.kind (at_server c h r) leader prev ids committed
   IsHonest h (SeenMatched r leader upto) = IsMatched c h r leader upto
   IsHonest h (SeenSnapshot leader upto) = (r : K) → IsSnapshotSent c.kind (at_server c h r) leader upto
@@ -140,6 +151,7 @@ module _ {L C K D M : Type 0} (c : SeenCluster L C K D M) where
     past : IsPast c h earlier
     server : (s : K) → IsServer c.kind (at_server c h s) (w.servers s) (h.events s)
     own : (s : K) → OwnVote h s (w.servers s)
+    promised : (s : K) → IsPromised c h (w.servers s).vote
     honest : (m : SeenMessage L C K) → IsAmong m w.network → IsHonest h m
 
 -- and all earlier histories stay earlier ones
@@ -159,6 +171,7 @@ module _ {L C K D M : Type 0} (c : SeenCluster L C K D M) (is_cluster : IsSeenCl
       by : (m : SeenMessage L C K) → IsHonest c inv.h m → IsHonest c after m
       by (SeenAsked vote last) is = λ r other. left.asked r vote last (is r other)
       by (SeenVoted r vote) is = left.voted r vote is
+      by (SeenPromised vote) is = left.promised vote is
       by (SeenSent leader prev ids committed) is = λ r. left.sent r leader prev ids committed (is r)
       by (SeenMatched r leader upto) is = left.matched r leader upto is
       by (SeenSnapshot leader upto) is = λ r. left.snapshot_sent r leader upto (is r)
@@ -166,15 +179,16 @@ module _ {L C K D M : Type 0} (c : SeenCluster L C K D M) (is_cluster : IsSeenCl
   -- what is to be shown of a step: of its server, and of what it sends
   carry : (after : History C K D) → GoesOn c s inv.h inv.earlier after
       → IsServer c.kind (at_server c after s) (v.servers s) (after.events s)
-      → OwnVote c after s (v.servers s)
+      → OwnVote c after s (v.servers s) → IsPromised c after (v.servers s).vote
       → ((m : SeenMessage L C K) → IsAmong m v.network → IsAmong m w.network ⊎ IsHonest c after m) → Carried c w v inv
-  carry after goes is own sent = record {
+  carry after goes is own promised sent = record {
     now = record {
       h = after;
       earlier = goes.earlier;
       past = goes.past;
       server = λ r. server r (c.same_node s r) refl;
       own = λ r. owns r (c.same_node s r) refl;
+      promised = λ r. true_vote r (c.same_node s r) refl;
       honest = λ m among. honest m (sent m among);
     };
     kept = goes.kept;
@@ -208,6 +222,11 @@ module _ {L C K D M : Type 0} (c : SeenCluster L C K D M) (is_cluster : IsSeenCl
       owns r true e = subst (λ (x : K). OwnVote c after x (v.servers x)) (is_cluster.nodes s r e) own
       owns r false e = subst (λ (x : State L C). OwnVote c after r x) (sym (others r e)) (apart r e)
 
+      true_vote : (r : K) (b : Bool) → c.same_node s r ≡ b → IsPromised c after (v.servers r).vote
+      true_vote r true e = subst (λ (x : K). IsPromised c after (v.servers x).vote) (is_cluster.nodes s r e) promised
+      true_vote r false e =
+          subst (λ (x : State L C). IsPromised c after x.vote) (sym (others r e)) (left.promised (w.servers r).vote (inv.promised r))
+
       honest : (m : SeenMessage L C K) → (IsAmong m w.network ⊎ IsHonest c after m) → IsHonest c after m
       honest m (inl old) = still_honest after goes m (inv.honest m old)
       honest m (inr new) = new
@@ -227,6 +246,37 @@ module _ {L C K D M : Type 0} (c : SeenCluster L C K D M) (is_cluster : IsSeenCl
       by (inl same) = inr (subst (λ (y : SeenMessage L C K). IsHonest c after y) (sym same) is)
       by (inr old) = inl old
 
+  two_sent : (after : History C K D) (x y : SeenMessage L C K) → v.network ≡ x ∷ y ∷ w.network → IsHonest c after x → IsHonest c after y
+      → (m : SeenMessage L C K) → IsAmong m v.network → IsAmong m w.network ⊎ IsHonest c after m
+  two_sent after x y e is also m among = by (subst (λ (n : List (SeenMessage L C K)). IsAmong m n) e among)
+    where
+      by : IsAmong m (x ∷ y ∷ w.network) → IsAmong m w.network ⊎ IsHonest c after m
+      by (inl same) = inr (subst (λ (z : SeenMessage L C K). IsHonest c after z) (sym same) is)
+      by (inr (inl same)) = inr (subst (λ (z : SeenMessage L C K). IsHonest c after z) (sym same) also)
+      by (inr (inr old)) = inl old
+
+  -- the vote that the server has after a step is true
+  vote_promised : (vote : VoteIn L) → IsPromised c inv.h vote → (after : History C K D) → GoesOn c s inv.h inv.earlier after
+      → (v.servers s).vote ≡ vote → IsPromised c after (v.servers s).vote
+  vote_promised vote is after goes e =
+      subst (λ (x : VoteIn L). IsPromised c after x) (sym e)
+      ((steps_stay c is_cluster inv.h after inv.earlier s inv.past goes).promised vote is)
+
+  -- so is the vote of a leader
+  leader_promised : (leader : L) (n : K) → IsAmong leader c.leaders → c.kind.voted leader ≡ Some n
+      → IsElected c.rank (is_quorum c.rank c.config_of c.initial c.quorum_of) inv.h (c.kind.committed leader) n
+      → (after : History C K D) → GoesOn c s inv.h inv.earlier after → (v.servers s).vote ≡ elected leader
+      → IsPromised c after (v.servers s).vote
+  leader_promised leader n in_use for el =
+      vote_promised (elected leader) (record {
+        in_use = in_use;
+        own = λ m real same.
+            subst (λ (x : K). HasVoted (c.kind.committed leader) x (inv.h.events x)) (some_same n m (sym for ∙ same)) el.for_itself;
+        elected = λ m yes real same.
+            subst (λ (x : K). IsElected c.rank (is_quorum c.rank c.config_of c.initial c.quorum_of) inv.h (c.kind.committed leader) x)
+            (some_same n m (sym for ∙ same)) el;
+      })
+
   not_own : (leader : L) (after : History C K D) → (c.kind.voted leader ≡ Some s → ⊥) → (v.servers s).vote.leader_id ≡ leader
       → OwnVote c after s (v.servers s)
   not_own leader after other e is_own term = absurd (other (ap c.kind.voted (sym e) ∙ is_own))
@@ -238,8 +288,10 @@ module _ {L C K D M : Type 0} (c : SeenCluster L C K D M) (is_cluster : IsSeenCl
       let r = (appends_are_steps c is_cluster inv.h inv.earlier inv.past s d.leader d.prev d.ids d.committed (w.servers s) (v.servers s)
       (inv.server s) d.whole d.whole_after (inv.honest (SeenSent d.leader d.prev d.ids d.committed) d.message s)).0 d.upto
       (d.call inv.h) in
+      let sent = inv.honest (SeenSent d.leader d.prev d.ids d.committed) d.message s in
       carry r.0.after r.0.goes_on r.0.server
       (not_own d.leader r.0.after d.other (ap (λ (x : VoteIn L). x.leader_id) (d.call inv.h).vote))
+      (leader_promised d.leader sent.by_node sent.in_use sent.is_for sent.elected_in r.0.after r.0.goes_on (d.call inv.h).vote)
       (one_sent r.0.after (SeenMatched s d.leader d.upto) d.sends r.1)
 
   handles_conflict : HandlesConflict c s w v → Carried c w v inv
@@ -247,31 +299,51 @@ module _ {L C K D M : Type 0} (c : SeenCluster L C K D M) (is_cluster : IsSeenCl
       let r = (appends_are_steps c is_cluster inv.h inv.earlier inv.past s d.leader d.prev d.ids d.committed (w.servers s) (v.servers s)
       (inv.server s) d.whole d.whole_after (inv.honest (SeenSent d.leader d.prev d.ids d.committed) d.message s)).1 d.at
       (d.call inv.h) in
+      let sent = inv.honest (SeenSent d.leader d.prev d.ids d.committed) d.message s in
       carry r.after r.goes_on r.server (not_own d.leader r.after d.other (ap (λ (x : VoteIn L). x.leader_id) (d.call inv.h).vote))
+      (leader_promised d.leader sent.by_node sent.in_use sent.is_for sent.elected_in r.after r.goes_on (d.call inv.h).vote)
       (same_sent d.sends r.after)
 
   handles_snapshot : HandlesSnapshot c s w v → Carried c w v inv
   handles_snapshot d =
       let r = installs_are_steps c is_cluster inv.h inv.earlier inv.past s d.leader d.upto (w.servers s) (v.servers s)
       (inv.server s) d.whole (inv.honest (SeenSnapshot d.leader d.upto) d.message s) (d.call inv.h) in
+      let sent = inv.honest (SeenSnapshot d.leader d.upto) d.message s in
       carry r.0.after r.0.goes_on r.0.server
       (not_own d.leader r.0.after d.other (ap (λ (x : VoteIn L). x.leader_id) (d.call inv.h).vote))
+      (leader_promised d.leader sent.by_node sent.in_use sent.is_for sent.elected_in r.0.after r.0.goes_on (d.call inv.h).vote)
       (one_sent r.0.after (SeenMatched s d.leader (Some d.upto)) d.sends r.1)
 
   handles_vote : HandlesVote c s w v → Carried c w v inv
   handles_vote d = by d.granted refl
     where
+      asked : IsAsked c.kind (at_server c inv.h s) d.vote d.last
+      asked = inv.honest (SeenAsked d.vote d.last) d.message s d.other
+
+      asked_for : IsPromised c inv.h d.vote
+      asked_for = record {
+        in_use = asked.in_use;
+        own = λ n real for.
+            subst (λ (x : K). HasVoted (c.kind.committed d.vote.leader_id) x (inv.h.events x))
+            (some_same asked.candidate n (sym asked.is_for ∙ for)) asked.own;
+        elected = λ n yes real for. absurd (true≢false (sym yes ∙ asked.not_committed));
+      }
+
       by : (b : Bool) → d.granted ≡ b → Carried c w v inv
       by true e =
           let r = votes_are_steps c is_cluster inv.h inv.earlier inv.past s d.vote d.last (w.servers s) (v.servers s) d.granted
-          (inv.server s) (inv.honest (SeenAsked d.vote d.last) d.message s d.other) (d.call inv.h) in
+          (inv.server s) asked (d.call inv.h) in
+          let promised = vote_promised d.vote asked_for r.0.after r.0.goes_on
+          (ap (λ (x : State L C). x.vote) ((d.call inv.h).taken e)) in
           carry r.0.after r.0.goes_on r.0.server
-          (not_own d.vote.leader_id r.0.after d.other (ap (λ (x : State L C). x.vote.leader_id) ((d.call inv.h).taken e)))
-          (one_sent r.0.after (SeenVoted s d.vote) (rw e at d.sends) (r.1 e))
+          (not_own d.vote.leader_id r.0.after d.other (ap (λ (x : State L C). x.vote.leader_id) ((d.call inv.h).taken e))) promised
+          (two_sent r.0.after (SeenPromised (v.servers s).vote) (SeenVoted s d.vote) (rw e at d.sends) promised (r.1 e))
       by false e =
           let same : v.servers s ≡ w.servers s = (d.call inv.h).refused e in
+          let promised = vote_promised (w.servers s).vote (inv.promised s) inv.h here (ap (λ (x : State L C). x.vote) same) in
           carry inv.h here (subst (λ (x : State L C). IsServer c.kind (at_server c inv.h s) x (inv.h.events s)) (sym same) (inv.server s))
-          (subst (λ (x : State L C). OwnVote c inv.h s x) (sym same) (inv.own s)) (same_sent (rw e at d.sends) inv.h)
+          (subst (λ (x : State L C). OwnVote c inv.h s x) (sym same) (inv.own s)) promised
+          (one_sent inv.h (SeenPromised (v.servers s).vote) (rw e at d.sends) promised)
 
   module _ (fixed : (d : D) → c.config_of d ≡ None)
       (not_first : (l : L) → IsAmong l c.leaders → 0 < c.kind.term_of l → c.kind.committed l ≡ c.first → ⊥) where
@@ -282,6 +354,10 @@ module _ {L C K D M : Type 0} (c : SeenCluster L C K D M) (is_cluster : IsSeenCl
     one_config : (log : List (Entry C D)) → effective_config c.config_of c.initial log ≡ c.initial
     one_config [] = refl
     one_config (e ∷ es) = rw (fixed e.content) (one_config es)
+
+    -- the server keeps its vote, and does nothing new
+    kept_promise : (v.servers s).vote ≡ (w.servers s).vote → IsPromised c inv.h (v.servers s).vote
+    kept_promise = vote_promised (w.servers s).vote (inv.promised s) inv.h here
 
     -- ---- an election
 
@@ -306,13 +382,14 @@ module _ {L C K D M : Type 0} (c : SeenCluster L C K D M) (is_cluster : IsSeenCl
           is_elected = λ yes. el;
           acked = λ yes lt. absurd (omega (arith, lt, ap length o.log, ap length (o.asked d.not_yet)));
         }))
+        (leader_promised (w.servers s).vote.leader_id s is.in_use d.is_own el inv.h here (ap (λ (x : State L C). x.vote) d.call))
         (same_sent d.sends inv.h)
       where
         t : C
         t = c.kind.committed (w.servers s).vote.leader_id
 
         own_vote : HasVoted t s (inv.h.events s)
-        own_vote = (inv.server s).voted_for s d.not_yet d.term d.is_own
+        own_vote = (inv.promised s).own s d.term d.is_own
 
         one_node : (a b : K) → Some a ≡ Some b → a ≡ b
         one_node a b e = cc
@@ -357,7 +434,7 @@ module _ {L C K D M : Type 0} (c : SeenCluster L C K D M) (is_cluster : IsSeenCl
     sends : Sends c s w v → Carried c w v inv
     sends d =
         carry inv.h here (subst (λ (x : State L C). IsServer c.kind (at_server c inv.h s) x (inv.h.events s)) (sym d.call) (inv.server s))
-        (subst (λ (x : State L C). OwnVote c inv.h s x) (sym d.call) (inv.own s))
+        (subst (λ (x : State L C). OwnVote c inv.h s x) (sym d.call) (inv.own s)) (kept_promise (ap (λ (x : State L C). x.vote) d.call))
         (one_sent inv.h (SeenSent (w.servers s).vote.leader_id d.prev d.ids (w.servers s).committed) d.sends
         (λ r. record {
           by_node = s;
@@ -401,7 +478,7 @@ module _ {L C K D M : Type 0} (c : SeenCluster L C K D M) (is_cluster : IsSeenCl
           is_elected = o.is_elected;
           acked = o.acked;
         })))
-        (same_sent d.sends inv.h)
+        (kept_promise (ap (λ (x : State L C). x.vote) d.call)) (same_sent d.sends inv.h)
       where
         t : C
         t = c.kind.committed (w.servers s).vote.leader_id
@@ -491,7 +568,111 @@ module _ {L C K D M : Type 0} (c : SeenCluster L C K D M) (is_cluster : IsSeenCl
     idles : Idles c s w v → Carried c w v inv
     idles d =
         carry inv.h here (subst (λ (x : State L C). IsServer c.kind (at_server c inv.h s) x (inv.h.events s)) (sym d.call) (inv.server s))
-        (subst (λ (x : State L C). OwnVote c inv.h s x) (sym d.call) (inv.own s)) (same_sent d.sends inv.h)
+        (subst (λ (x : State L C). OwnVote c inv.h s x) (sym d.call) (inv.own s)) (kept_promise (ap (λ (x : State L C). x.vote) d.call))
+        (same_sent d.sends inv.h)
+
+    -- ---- a vote in a response
+
+    refuses : Refuses c s w v → Carried c w v inv
+    refuses d =
+        carry inv.h here (subst (λ (x : State L C). IsServer c.kind (at_server c inv.h s) x (inv.h.events s)) (sym d.call) (inv.server s))
+        (subst (λ (x : State L C). OwnVote c inv.h s x) (sym d.call) (inv.own s)) (kept_promise (ap (λ (x : State L C). x.vote) d.call))
+        (one_sent inv.h (SeenPromised (w.servers s).vote) d.sends (inv.promised s))
+
+    hears : Hears c s w v → Carried c w v inv
+    hears d = by (partial_ge (vote_cmp c.kind.order) d.vote (w.servers s).vote) refl
+      where
+        heard : IsPromised c inv.h d.vote
+        heard = inv.honest (SeenPromised d.vote) d.message
+
+        is : IsServer c.kind (at_server c inv.h s) (w.servers s) (inv.h.events s)
+        is = inv.server s
+
+        -- the vote is of a term of a campaign of the server's own, and so is the vote that it has
+        still_own : c.kind.voted d.vote.leader_id ≡ Some s → 0 < c.kind.term_of d.vote.leader_id
+            → c.kind.committed d.vote.leader_id ≡ c.kind.committed (w.servers s).vote.leader_id
+            → (d.vote.committed ≡ false → (w.servers s).vote.committed ≡ false) → IsOwn c inv.h s (w.servers s)
+            → IsOwn c inv.h s (record (w.servers s) { vote = d.vote })
+        still_own for real same none_then o = record {
+          log = ap (λ (t : C). inv.h.leader_log t s) same ∙ o.log;
+          asked = λ none. ap (λ (t : C). inv.h.candidate_log t s) same ∙ o.asked (none_then none);
+          is_elected = λ yes. heard.elected s yes real for;
+          acked = λ yes lt.
+              subst (λ (t : C). HasAcked t s (length (inv.h.leader_log t s)) (inv.h.events s)) (sym same)
+              (acked (w.servers s).vote.committed refl
+              (subst (λ (t : C). length (inv.h.candidate_log t s) < length (inv.h.leader_log t s)) same lt));
+        }
+          where
+            acked : (b : Bool) → (w.servers s).vote.committed ≡ b
+                → length (inv.h.candidate_log (c.kind.committed (w.servers s).vote.leader_id) s)
+                < length (inv.h.leader_log (c.kind.committed (w.servers s).vote.leader_id) s)
+                → HasAcked (c.kind.committed (w.servers s).vote.leader_id) s
+                (length (inv.h.leader_log (c.kind.committed (w.servers s).vote.leader_id) s)) (inv.h.events s)
+            acked true e lt = o.acked e lt
+            acked false e lt = absurd (omega (arith, lt, ap length o.log, ap length (o.asked e)))
+
+        -- a vote for the server itself is of a term that it has reached
+        owns : partial_ge (vote_cmp c.kind.order) d.vote (w.servers s).vote ≡ true
+            → OwnVote c inv.h s (record (w.servers s) { vote = d.vote })
+        owns h for real = by (no_lesser c.kind.order d.vote (w.servers s).vote h)
+          where
+            own : HasVoted (c.kind.committed d.vote.leader_id) s (inv.h.events s)
+            own = heard.own s real for
+
+            low : c.rank (c.kind.committed d.vote.leader_id) ≤ term_after c.rank (inv.h.events s)
+            low =
+                voted_term c.rank (Q c is_cluster) inv.h lawful s (c.kind.committed d.vote.leader_id) s (inv.h.events s)
+                (lawful.servers s) own
+
+            by : IsNoLesser c.kind.order d.vote (w.servers s).vote → IsOwn c inv.h s (record (w.servers s) { vote = d.vote })
+            by (inl above) =
+                let lt = is_cluster.ranked.greater d.vote.leader_id (w.servers s).vote.leader_id heard.in_use is.in_use above in
+                absurd (let high = is.reached in let most = low in omega (arith, lt, high, most))
+            by (inr (inl (at, none_then))) =
+                let same = is_cluster.ranked.equal d.vote.leader_id (w.servers s).vote.leader_id at in
+                still_own for real (ap c.kind.committed same) none_then
+                (inv.own s (ap c.kind.voted (sym same) ∙ for) (subst (λ (l : L). 0 < c.kind.term_of l) same real))
+            by (inr (inr (apart, is_committed, none))) =
+                still_own for real same (λ u. none) (inv.own s (node.1 ∙ ap (λ (x : K). Some x) is_s) term)
+              where
+                ranks : c.rank (c.kind.committed (w.servers s).vote.leader_id) ≡ c.rank (c.kind.committed d.vote.leader_id)
+                ranks = is_cluster.ranked.apart d.vote.leader_id (w.servers s).vote.leader_id heard.in_use is.in_use apart
+
+                same : c.kind.committed d.vote.leader_id ≡ c.kind.committed (w.servers s).vote.leader_id
+                same =
+                    is_cluster.distinct (c.kind.committed d.vote.leader_id) (c.kind.committed (w.servers s).vote.leader_id)
+                    (is_cluster.in_terms d.vote.leader_id heard.in_use)
+                    (is_cluster.in_terms (w.servers s).vote.leader_id is.in_use) (sym ranks)
+
+                term : 0 < c.kind.term_of (w.servers s).vote.leader_id
+                term =
+                    let e = is_cluster.one_term d.vote.leader_id (w.servers s).vote.leader_id apart in
+                    omega (arith, e, real)
+
+                node : (n : K) × (c.kind.voted (w.servers s).vote.leader_id ≡ Some n)
+                node = is_cluster.has_node (w.servers s).vote.leader_id is.in_use term
+
+                is_s : node.0 ≡ s
+                is_s = voter (is.voted_for node.0 none term node.1)
+                  where
+                    voter : HasVoted (c.kind.committed (w.servers s).vote.leader_id) node.0 (inv.h.events s)
+                        ⊎ (term_after c.rank (inv.h.events s) < c.rank (c.kind.committed (w.servers s).vote.leader_id))
+                        → node.0 ≡ s
+                    voter (inl voted) =
+                        voted_once c.rank (Q c is_cluster) inv.h lawful s (c.kind.committed (w.servers s).vote.leader_id) node.0 s
+                        (inv.h.events s) (lawful.servers s) voted
+                        (subst (λ (t : C). HasVoted t s (inv.h.events s)) same own)
+                    voter (inr later) = absurd (let most = low in let at = ranks in omega (arith, later, most, at))
+
+        by : (b : Bool) → partial_ge (vote_cmp c.kind.order) d.vote (w.servers s).vote ≡ b → Carried c w v inv
+        by true h =
+            let call : v.servers s ≡ record (w.servers s) { vote = d.vote } = rw h at d.call in
+            carry inv.h here
+            (subst (λ (x : State L C). IsServer c.kind (at_server c inv.h s) x (inv.h.events s)) (sym call)
+            (hears_by_rule c.kind (at_server c inv.h s) is_cluster.ranked (inv.h.events s) d.vote (w.servers s) is heard.in_use h))
+            (subst (λ (x : State L C). OwnVote c inv.h s x) (sym call) (owns h))
+            (vote_promised d.vote heard inv.h here (ap (λ (x : State L C). x.vote) call)) (same_sent d.sends inv.h)
+        by false h = idles (record { call = rw h at d.call; sends = d.sends })
 
     -- ---- a restart, and a purge
 
@@ -504,7 +685,7 @@ module _ {L C K D M : Type 0} (c : SeenCluster L C K D M) (is_cluster : IsSeenCl
     sends_snapshot : SendsSnapshot c s w v → Carried c w v inv
     sends_snapshot d =
         carry inv.h here (subst (λ (x : State L C). IsServer c.kind (at_server c inv.h s) x (inv.h.events s)) (sym d.call) (inv.server s))
-        (subst (λ (x : State L C). OwnVote c inv.h s x) (sym d.call) (inv.own s))
+        (subst (λ (x : State L C). OwnVote c inv.h s x) (sym d.call) (inv.own s)) (kept_promise (ap (λ (x : State L C). x.vote) d.call))
         (one_sent inv.h (SeenSnapshot (w.servers s).vote.leader_id d.upto) d.sends
         (λ r. record {
           by_node = s;
@@ -548,7 +729,7 @@ module _ {L C K D M : Type 0} (c : SeenCluster L C K D M) (is_cluster : IsSeenCl
         }))
         (subst (λ (x : State L C). OwnVote c inv.h s x) (sym d.call)
         (same_own (record (w.servers s) { ids = d.left; purged_next = d.next; committed = d.known }) refl))
-        (same_sent d.sends inv.h)
+        (kept_promise (ap (λ (x : State L C). x.vote) d.call)) (same_sent d.sends inv.h)
 
     purges : Purges c s w v → Carried c w v inv
     purges d =
@@ -565,7 +746,7 @@ module _ {L C K D M : Type 0} (c : SeenCluster L C K D M) (is_cluster : IsSeenCl
         }))
         (subst (λ (x : State L C). OwnVote c inv.h s x) (sym d.call)
         (same_own (record (w.servers s) { ids = d.left; purged_next = d.next }) refl))
-        (same_sent d.sends inv.h)
+        (kept_promise (ap (λ (x : State L C). x.vote) d.call)) (same_sent d.sends inv.h)
 
     -- ---- histories in which the logs of one node in one term change
 
@@ -739,7 +920,7 @@ module _ {L C K D M : Type 0} (c : SeenCluster L C K D M) (is_cluster : IsSeenCl
           (record {
             in_use = d.in_use;
             reached = omega arith;
-            voted_for = λ e none real for. inl (refl, one_node s e (sym d.is_own ∙ for));
+            voted_for = λ e none real for. inl (inl (refl, one_node s e (sym d.is_own ∙ for)));
             log = record { last = old.log.last; each = old.log.each };
             purged = λ i at. after_vote (suc i) (old.purged i at);
             committed = λ i at. after_vote (suc i) (old.committed i at);
@@ -750,6 +931,14 @@ module _ {L C K D M : Type 0} (c : SeenCluster L C K D M) (is_cluster : IsSeenCl
             asked = λ none. asks_with ∙ sym (ap log_after events_own);
             is_elected = λ yes. absurd (true≢false (sym yes));
             acked = λ yes lt. absurd (true≢false (sym yes));
+          }))
+          (subst (λ (x : State L C). IsPromised c campaign x.vote) (sym d.call)
+          (record {
+            in_use = d.in_use;
+            own = λ n real for.
+                subst (λ (x : K). HasVoted to_be x (campaign.events x)) (one_node s n (sym d.is_own ∙ for))
+                (rw events_own (inl (refl, refl)));
+            elected = λ n yes. absurd (true≢false (sym yes));
           }))
           (one_sent campaign (SeenAsked (uncommitted d.leader) (last_id (w.servers s).ids)) d.sends
           (λ r other. record {
@@ -978,6 +1167,7 @@ module _ {L C K D M : Type 0} (c : SeenCluster L C K D M) (is_cluster : IsSeenCl
             is_elected = λ yes. (stable.elected in_term s el).0;
             acked = λ yes lt. rw (events_three, written_is) (inl (refl, refl, omega arith));
           }))
+          (vote_promised (w.servers s).vote (inv.promised s) acked goes_on (ap (λ (x : State L C). x.vote) d.call))
           (same_sent d.sends acked)
 
     -- ---- each step
@@ -986,6 +1176,8 @@ module _ {L C K D M : Type 0} (c : SeenCluster L C K D M) (is_cluster : IsSeenCl
     one_step (SeesVote d) = handles_vote d
     one_step (SeesMatch d) = handles_match d
     one_step (SeesConflict d) = handles_conflict d
+    one_step (SeesRefusal d) = refuses d
+    one_step (SeesHearing d) = hears d
     one_step (SeesCampaign d) = campaigns d
     one_step (SeesElection d) = made_leader d
     one_step (SeesWrite d) = writes d
@@ -1021,6 +1213,11 @@ module _ {L C K D M : Type 0} (c : SeenCluster L C K D M) (is_cluster : IsSeenCl
       committed = λ i at. absurd (omega (arith, at, f.committed s));
     };
     own = λ s is_own term. absurd (omega (arith, term, f.no_vote s));
+    promised = λ s. record {
+      in_use = f.in_use s;
+      own = λ n real for. absurd (omega (arith, real, f.no_vote s));
+      elected = λ n yes real for. absurd (omega (arith, real, f.no_vote s));
+    };
     honest = λ m among. absurd (none_sent m among);
   }
     where

@@ -1,5 +1,5 @@
 -- Calls of the handlers are steps of an execution: what is known of a history, and what each call keeps.
-use Rattle.std.specs.Prelude.{◌≡◌, ℕ, suc, Bool, true, false, List, ◌∷◌, Option, Some}
+use Rattle.std.specs.Prelude.{◌≡◌, ◌<◌, ℕ, suc, Bool, true, false, List, ◌∷◌, Option, Some, None}
 use Rattle.raft_base.specs.declared.log_id.LogIdOf.{LogIdOf}
 use Rattle.raft_base.specs.declared.vote.VoteIn.{VoteIn}
 use Rattle.raft_base.specs.LogId.{next_index}
@@ -38,12 +38,14 @@ module _ {L C K D M : Type 0} (c : SeenCluster L C K D M) where
     server = s;
   }
 
-  -- leader ids in use are ranked, node ids are compared exactly, and quorums of the initial config
-  -- intersect
+  -- leader ids in use are ranked, and those that do not compare are of one term. Each of a term after 0
+  -- has a node. Node ids are compared exactly, and quorums of the initial config intersect
   pub record IsSeenCluster : Type 0 where
     pub ranked : AreRanked c.kind c.rank c.leaders c.terms c.first
     pub in_terms : (l : L) → IsAmong l c.leaders → IsAmong (c.kind.committed l) c.terms
     pub distinct : (t u : C) → IsAmong t c.terms → IsAmong u c.terms → c.rank t ≡ c.rank u → t ≡ u
+    pub one_term : (l m : L) → c.kind.order l m ≡ None → c.kind.term_of l ≡ c.kind.term_of m
+    pub has_node : (l : L) → IsAmong l c.leaders → 0 < c.kind.term_of l → (n : K) × (c.kind.voted l ≡ Some n)
     pub nodes : (x y : K) → c.same_node x y ≡ true → x ≡ y
     pub node_itself : (x : K) → c.same_node x x ≡ true
     pub intersects : QuorumsIntersect c.quorum_of c.initial c.initial
@@ -77,6 +79,17 @@ module _ {L C K D M : Type 0} (c : SeenCluster L C K D M) where
     pub candidate : K
     pub is_for : c.kind.voted vote.leader_id ≡ Some candidate
     pub voted : HasVoted (c.kind.committed vote.leader_id) candidate (h.events by_node)
+
+  -- a vote that a server has, or had when it answered: its leader id is in use, its node has voted for
+  -- itself, and is elected if the vote is committed
+  pub record IsPromised (h : History C K D) (vote : VoteIn L) : Type 0 where
+    pub in_use : IsAmong vote.leader_id c.leaders
+    pub own : (n : K) → 0 < c.kind.term_of vote.leader_id → c.kind.voted vote.leader_id ≡ Some n
+        → HasVoted (c.kind.committed vote.leader_id) n (h.events n)
+    pub elected : (n : K) → vote.committed ≡ true → 0 < c.kind.term_of vote.leader_id
+        → c.kind.voted vote.leader_id ≡ Some n
+        → IsElected c.rank (is_quorum c.rank c.config_of c.initial c.quorum_of) h
+        (c.kind.committed vote.leader_id) n
 
   -- a response that a log matches up to a log id is true
   pub record IsMatched (h : History C K D) (by_node : K) (leader : L) (upto : Option (LogIdOf C))
@@ -138,6 +151,7 @@ pub record StepLeaves {L C K D M : Type 0} (c : SeenCluster L C K D M) (s : K) (
       → IsSnapshotSent c.kind (at_server c h r) leader upto
       → IsSnapshotSent c.kind (at_server c after r) leader upto
   pub voted : (r : K) (vote : VoteIn L) → IsVoted c h r vote → IsVoted c after r vote
+  pub promised : (vote : VoteIn L) → IsPromised c h vote → IsPromised c after vote
   pub matched : (r : K) (leader : L) (upto : Option (LogIdOf C)) → IsMatched c h r leader upto
       → IsMatched c after r leader upto
 

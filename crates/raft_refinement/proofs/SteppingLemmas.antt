@@ -434,6 +434,11 @@ steps_stay {L} {C} {K} {D} {M} c is_cluster h after earlier s past goes = record
     is_for = v.is_for;
     voted = goes.stable.voted r (c.kind.committed vote.leader_id) v.candidate v.voted;
   };
+  promised = λ vote x. record {
+    in_use = x.in_use;
+    own = λ n real for. goes.stable.voted n (c.kind.committed vote.leader_id) n (x.own n real for);
+    elected = λ n yes real for. (goes.stable.elected (c.kind.committed vote.leader_id) n (x.elected n yes real for)).0;
+  };
   matched = λ r leader upto m.
       let el = goes.stable.elected (c.kind.committed leader) m.to_node m.elected in
       record {

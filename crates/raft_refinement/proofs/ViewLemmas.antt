@@ -23,12 +23,14 @@ use Rattle.std.specs.Prelude.{
   if◌then◌else◌,
 }
 use Rattle.std.specs.Option.{option_eq, option_map_or}
+use Rattle.std.specs.Ordering.{partial_ge}
 use Rattle.std.proofs.Common.{refl, sym, ap, subst, ◌∙◌, inl, inr, arith, true≢false}
 use Rattle.std.proofs.lemmas.Bool.{and_parts, false≢true}
 use mathlib.Core.Bool.{beq}
 use Rattle.raft_base.specs.LogId.{id_le, id_lt, next_index}
 use Rattle.raft_base.specs.LogIdLawful.{optional-log_id_cmp-total}
 use Rattle.raft_base.specs.UTime.{moment_of, utime_of}
+use Rattle.raft_base.specs.Vote.{vote_cmp}
 use Rattle.raft_base.specs.declared.log_id.LogIdOf.{LogIdOf}
 use Rattle.raft_base.specs.declared.vote.VoteIn.{VoteIn}
 use Rattle.raft_handlers.specs.Append.{Answers, IfHigherVote}
@@ -79,6 +81,7 @@ use Rattle.raft_refinement.specs.Running.{
   CountsVote,
   DoesOne,
   EntriesSent,
+  HearsVote,
   IsCluster,
   IsElectedLeader,
   IsFirst,
@@ -91,6 +94,7 @@ use Rattle.raft_refinement.specs.Running.{
   OneCount,
   OneElection,
   OneElse,
+  OneHearing,
   OneProposal,
   OnePurge,
   OneRestart,
@@ -110,10 +114,11 @@ use Rattle.raft_refinement.specs.Running.{
   VoteAnswered,
   VoteAsked,
   World,
+  vote_in,
 }
 use Rattle.raft_refinement.specs.Seen.{leaders_of, seen}
 use Rattle.raft_refinement.proofs.AppendingLemmas.{index_found}
-use Rattle.raft_refinement.proofs.LawLemmas.{AreExact, Laws, are_ranked, from_map, in_terms, not_first, ranks}
+use Rattle.raft_refinement.proofs.LawLemmas.{AreExact, Laws, are_ranked, from_map, has_node, in_terms, not_first, one_term, ranks}
 use Rattle.raft_refinement.proofs.PlaceLemmas.{beq_is, greater_leader, same_logs, same_state, same_votes, some_same}
 use Rattle.raft_refinement.proofs.RunningLemmas.{runs_are_safe}
 use Rattle.raft_refinement.proofs.SeenLemmas.{
@@ -136,6 +141,7 @@ use Rattle.raft_refinement.proofs.Views.{
   SeenDoes,
   SeenMatched,
   SeenMessage,
+  SeenPromised,
   SeenSent,
   SeenSnapshot,
   SeenStep,
@@ -145,9 +151,11 @@ use Rattle.raft_refinement.proofs.Views.{
   SeesCommit,
   SeesConflict,
   SeesElection,
+  SeesHearing,
   SeesIdle,
   SeesMatch,
   SeesPurge,
+  SeesRefusal,
   SeesRestart,
   SeesSend,
   SeesSendSnapshot,
@@ -179,12 +187,12 @@ seen_snapshot leader (Some upto) = SeenSnapshot leader upto ∷ []
 abbrev pub seen_answer : {K L C : Type 0} → K → L → Outcome L C → List (SeenMessage L C K)
 seen_answer from leader (Matches upto) = SeenMatched from leader upto ∷ []
 seen_answer from leader (Conflict at last) = []
-seen_answer from leader (HigherVote vote) = []
+seen_answer from leader (HigherVote vote) = SeenPromised vote ∷ []
 
 -- what matters of a message
 abbrev pub seen_message : {K N L C D : Type 0} → Message K N L C D → List (SeenMessage L C K)
 seen_message (VoteAsked r) = SeenAsked r.vote r.last_log_id ∷ []
-seen_message (VoteAnswered from r) = if r.granted then SeenVoted from r.vote ∷ [] else []
+seen_message (VoteAnswered from r) = SeenPromised r.vote ∷ (if r.granted then SeenVoted from r.vote ∷ [] else [])
 seen_message (EntriesSent r) = SeenSent r.leader_id r.prev (entry_ids r.entries.items) r.committed ∷ []
 seen_message (SnapshotSent r) = seen_snapshot r.leader_id r.meta.last_log_id
 seen_message (Answered from leader o) = seen_answer from leader o
@@ -226,6 +234,8 @@ is_viewed node_eq laws exact c is_cluster = record {
   ranked = are_ranked laws exact c is_cluster;
   in_terms = in_terms laws exact c is_cluster;
   distinct = (ranks laws exact c is_cluster).one;
+  one_term = one_term laws;
+  has_node = has_node laws exact c is_cluster;
   nodes = exact.nodes;
   node_itself = laws.ids_equal.refl;
   intersects = itself_intersects laws.ids_equal exact.nodes c.configs is_cluster.has_config;
@@ -308,7 +318,10 @@ module _ {K N I L C D : Type 0} {ids : OrdMembers K} (node_eq : N → N → Bool
           taken = λ yes. ap seen (d.call.taken yes);
           refused = λ no. ap seen (d.call.refused no);
         };
-        sends = ap seen_network d.sends ∙ sent d.response.granted refl;
+        sends = ap seen_network d.sends
+            ∙ ap (λ (ms : List (SeenMessage L C K)). SeenPromised d.response.vote ∷ ms) (sent d.response.granted refl)
+            ∙ ap (λ (x : VoteIn L). SeenPromised x ∷ (if d.response.granted
+                then SeenVoted s d.request.vote ∷ seen_network w.network else seen_network w.network)) d.call.answer;
       });
       grows = one_sent (VoteAnswered s d.response) d.sends;
       campaign = same_campaign d.campaign (one_sent (VoteAnswered s d.response) d.sends);
@@ -377,7 +390,12 @@ module _ {K N I L C D : Type 0} {ids : OrdMembers K} (node_eq : N → N → Bool
               (followed (Conflict at last) e (λ x f. not_higher (Conflict at last) x refl f)) at last (answers (Conflict at last) e);
           sends = sent (Conflict at last) e;
         })
-        by (HigherVote vote) e = idle (ap seen (answers (HigherVote vote) e).1) (sent (HigherVote vote) e)
+        by (HigherVote vote) e =
+            let answer = answers (HigherVote vote) e in
+            SeesRefusal (record {
+              call = ap seen answer.1;
+              sends = sent (HigherVote vote) e ∙ ap (λ (x : VoteIn L). SeenPromised x ∷ seen_network w.network) answer.0;
+            })
 
     abbrev IsAnswer : InstallSnapshot L C K N → Outcome L C → Type 0
     IsAnswer request o = AnswersSnapshot logs kind.eq (IsSnapshotCopy ids.eq node_eq) request.meta o
@@ -403,12 +421,19 @@ module _ {K N I L C D : Type 0} {ids : OrdMembers K} (node_eq : N → N → Bool
         unheard false e = refl
         unheard true e = absurd (true≢false e)
 
+        not_followed : (x : VoteIn L) → d.outcome ≡ HigherVote x → is_followed kind.order d.request.leader_id (w.servers s) ≡ false
+        not_followed x e =
+            subst (λ (o : Outcome L C). IfHigherVote o (λ _. is_followed kind.order d.request.leader_id
+            (w.servers s) ≡ false)) e d.followed
+
         none_heard : (x : VoteIn L) → d.outcome ≡ HigherVote x → v.servers s ≡ heard kind.order d.request.leader_id (w.servers s)
             → seen (v.servers s) ≡ seen (w.servers s)
         none_heard x e same =
-            ap seen (same ∙ unheard (is_followed kind.order d.request.leader_id (w.servers s))
-            (subst (λ (o : Outcome L C). IfHigherVote o (λ _. is_followed kind.order d.request.leader_id
-            (w.servers s) ≡ false)) e d.followed))
+            ap seen (same ∙ unheard (is_followed kind.order d.request.leader_id (w.servers s)) (not_followed x e))
+
+        -- the vote that the answer has
+        own_vote : (x y : VoteIn L) → d.outcome ≡ HigherVote x → d.outcome ≡ HigherVote y → x ≡ y
+        own_vote x y e f = let same : HigherVote x ≡ HigherVote y = sym e ∙ f in cc
 
         by : (o : Outcome L C) → d.outcome ≡ o → SeenDoes (viewed ids node_eq kind logs c) s (world_seen w) (world_seen v)
         by (Matches upto) e =
@@ -437,7 +462,50 @@ module _ {K N I L C D : Type 0} {ids : OrdMembers K} (node_eq : N → N → Bool
             sees (Some x) e = inl (ap (λ (y : LogIdOf C). SeenSnapshot d.request.leader_id y) (sym (some_same x d.upto e)))
         by (Conflict at last) e = absurd (subst (λ (x : Outcome L C). IsAnswer d.request x) e d.answers)
         by (HigherVote x) e =
-            idle (none_heard x e (subst (λ (y : Outcome L C). IsAnswer d.request y) e d.answers).1) (sent (HigherVote x) e)
+            SeesRefusal (record {
+              call = none_heard x e (subst (λ (y : Outcome L C). IsAnswer d.request y) e d.answers).1;
+              sends = sent (HigherVote x) e
+                  ∙ ap (λ (y : VoteIn L). SeenPromised y ∷ seen_network w.network)
+                  (own_vote x (vote_of (w.servers s)) e (d.not_followed (not_followed x e)));
+            })
+
+    -- ---- a vote in a response
+
+    hearing_seen : HearsVote ids node_eq kind logs c s w v → IsSeenStep s w v
+    hearing_seen d = record {
+      does = SeesHearing (record {
+        vote = d.vote;
+        message = in_network d.response (SeenPromised d.vote) w.network d.message (sees d.response d.has_vote);
+        call = ap seen d.taken ∙ pick d.promised d.answer;
+        sends = ap seen_network d.sends;
+      });
+      grows = none_sent d.sends;
+      campaign = λ x at. by d.campaign x at;
+    }
+      where
+        sees : (m : Message K N L C D) → vote_in m ≡ Some d.vote → IsAmong (SeenPromised d.vote) (seen_message m)
+        sees (VoteAsked r) e = cc
+        sees (VoteAnswered from r) e = inl (ap (λ (x : VoteIn L). SeenPromised x) (some_same d.vote r.vote (sym e)))
+        sees (EntriesSent r) e = cc
+        sees (SnapshotSent r) e = cc
+        sees (Answered from leader (Matches upto)) e = cc
+        sees (Answered from leader (Conflict at last)) e = cc
+        sees (Answered from leader (HigherVote x)) e = inl (ap (λ (y : VoteIn L). SeenPromised y) (some_same d.vote x (sym e)))
+
+        pick : (b : Bool) → b ≡ partial_ge (vote_cmp kind.order) d.vote (vote_of (w.servers s))
+            → seen (if b then record (w.servers s) { vote = utime_of d.vote (moment_of (w.servers s).vote) } else w.servers s)
+            ≡ (if partial_ge (vote_cmp kind.order) d.vote (vote_of (w.servers s)) then record (seen (w.servers s)) { vote = d.vote }
+            else seen (w.servers s))
+        pick true e = rw (sym e) refl
+        pick false e = rw (sym e) refl
+
+        none_there : (x : Campaign K N L C) → None ≡ Some x → ⊥
+        none_there x e = cc
+
+        by : (v.campaigns s ≡ w.campaigns s) ⊎ (v.campaigns s ≡ None) → (x : Campaign K N L C) → v.campaigns s ≡ Some x
+            → IsCampaign v s x
+        by (inl same) = same_campaign same (none_sent d.sends)
+        by (inr over) = λ x at. absurd (none_there x (sym over ∙ at))
 
     -- ---- a campaign
 
@@ -508,7 +576,7 @@ module _ {K N I L C D : Type 0} {ids : OrdMembers K} (node_eq : N → N → Bool
         own_answer : IsAmong (SeenVoted d.from d.before.vote) (seen_network w.network)
         own_answer =
             in_network (VoteAnswered d.from d.response) (SeenVoted d.from d.before.vote) w.network d.message
-            (sees d.response.granted d.granted)
+            (inr (sees d.response.granted d.granted))
           where
             sees : (b : Bool) → b ≡ true
                 → IsAmong {X = SeenMessage L C K} (SeenVoted d.from d.before.vote)
@@ -877,6 +945,7 @@ module _ {K N I L C D : Type 0} {ids : OrdMembers K} (node_eq : N → N → Bool
     does_seen (OneVote d) = vote_seen d
     does_seen (OneAppend d) = append_seen d
     does_seen (OneSnapshot d) = snapshot_seen d
+    does_seen (OneHearing d) = hearing_seen d
     does_seen (OneCampaign d) = campaign_seen d
     does_seen (OneCount d) = count_seen d
     does_seen (OneElection d) = election_seen d

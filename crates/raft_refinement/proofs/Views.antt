@@ -4,6 +4,8 @@ use Rattle.std.specs.declared.cmp.Ordering.TheVariants.{Greater}
 use Rattle.raft_base.specs.declared.log_id.LogIdOf.{LogIdOf}
 use Rattle.raft_base.specs.declared.vote.VoteIn.{VoteIn}
 use Rattle.raft_base.specs.LogId.{id_le, next_index}
+use Rattle.raft_base.specs.Vote.{vote_cmp}
+use Rattle.std.specs.Ordering.{partial_ge}
 use Rattle.raft_safety.specs.Events.{History}
 use Rattle.raft_state.specs.log_id_list.LogReads.{id_at, last_id}
 use Rattle.raft_safety.specs.Ranks.{IsAmong}
@@ -12,11 +14,13 @@ use Rattle.raft_handlers.specs.Follow.{elected}
 use Rattle.raft_refinement.proofs.Calls.{AppendConflicts, AppendMatches, HandlesVoteRequest, InstallMatches}
 use Rattle.raft_refinement.proofs.Stepping.{SeenCluster, IsSeenCluster, at_server}
 
--- a message: a request for a vote, the response that grants it, a request to append entries, the
--- response that the log matches, and a snapshot up to a log id. Other responses have no effect on safety
+-- a message: a request for a vote, the response that grants it, the vote that a response has, a request to
+-- append entries, the response that the log matches, and a snapshot up to a log id. Other responses have no
+-- effect on safety
 pub data SeenMessage (L C K : Type 0) : Type 0 where
   SeenAsked : VoteIn L → Option (LogIdOf C) → SeenMessage L C K
   SeenVoted : K → VoteIn L → SeenMessage L C K
+  SeenPromised : VoteIn L → SeenMessage L C K
   SeenSent : L → Option (LogIdOf C) → List (LogIdOf C) → Option (LogIdOf C) → SeenMessage L C K
   SeenMatched : K → L → Option (LogIdOf C) → SeenMessage L C K
   SeenSnapshot : L → LogIdOf C → SeenMessage L C K
@@ -46,7 +50,8 @@ module _ {L C K D M : Type 0} (c : SeenCluster L C K D M) (s : K) (w v : SeenWor
     pub message : IsAmong (SeenAsked vote last) w.network
     pub other : c.kind.voted vote.leader_id ≡ Some s → ⊥
     pub call : (h : History C K D) → HandlesVoteRequest c.kind (at_server c h s) vote last (w.servers s) (v.servers s) granted
-    pub sends : v.network ≡ (if granted then SeenVoted s vote ∷ w.network else w.network)
+    pub sends : v.network
+        ≡ SeenPromised (v.servers s).vote ∷ (if granted then SeenVoted s vote ∷ w.network else w.network)
 
   -- the server handles a request to append entries, of another node, and answers that it matches
   pub record HandlesMatch : Type 0 where
@@ -85,6 +90,19 @@ module _ {L C K D M : Type 0} (c : SeenCluster L C K D M) (s : K) (w v : SeenWor
     pub whole : IsWhole (w.servers s).purged_next (w.servers s).ids
     pub call : (h : History C K D) → InstallMatches c.kind (at_server c h s) leader upto (w.servers s) (v.servers s)
     pub sends : v.network ≡ SeenMatched s leader (Some upto) ∷ w.network
+
+  -- the server follows no leader that has asked it, and answers with its vote
+  pub record Refuses : Type 0 where
+    pub call : v.servers s ≡ w.servers s
+    pub sends : v.network ≡ SeenPromised (w.servers s).vote ∷ w.network
+
+  -- the server takes the vote that a response has, if it is at least its own
+  pub record Hears : Type 0 where
+    pub vote : VoteIn L
+    pub message : IsAmong (SeenPromised vote) w.network
+    pub call : v.servers s ≡ (if partial_ge (vote_cmp c.kind.order) vote (w.servers s).vote
+        then record (w.servers s) { vote = vote } else w.servers s)
+    pub sends : v.network ≡ w.network
 
   -- nothing changes of what is seen of the server, and it sends nothing that matters
   pub record Idles : Type 0 where
@@ -196,6 +214,8 @@ module _ {L C K D M : Type 0} (c : SeenCluster L C K D M) (s : K) (w v : SeenWor
     SeesVote : HandlesVote → SeenDoes
     SeesMatch : HandlesMatch → SeenDoes
     SeesConflict : HandlesConflict → SeenDoes
+    SeesRefusal : Refuses → SeenDoes
+    SeesHearing : Hears → SeenDoes
     SeesCampaign : Campaigns → SeenDoes
     SeesElection : IsMadeLeader → SeenDoes
     SeesWrite : Writes → SeenDoes

@@ -29,6 +29,7 @@ use Rattle.raft_refinement.specs.Running.{
   VoteAnswered,
   VoteAsked,
   World,
+  vote_in,
 }
 use Rattle.raft_refinement.specs.Seen.{seen}
 use Rattle.raft_safety.specs.Ranks.{IsAmong}
@@ -81,6 +82,14 @@ module _ {K N I L C : Type 0} (D : Type 0) (ids : OrdMembers K) (node_eq : N →
       → ComesAfter ids.eq s old new (w.campaigns s) (Answered s request.leader_id outcome ∷ w.network) w v
       → IsAmong (SnapshotSent request) w.network → (kind.voted request.leader_id ≡ Some s → ⊥)
       → request.meta.last_log_id ≡ Some upto → Step ids node_eq kind logs c w v
+
+  -- a vote that a response has. The campaign is as it was, or over
+  abbrev pub HearingIsStep : VoteIn L → RaftStateIn K N I L C → RaftStateIn K N I L C → Type 0
+  HearingIsStep vote old new =
+      (c : Cluster K L) (s : K) (w v : World K N I L C D) (campaign : Option (Campaign K N L C))
+      (response : Message K N L C D) → ComesAfter ids.eq s old new campaign w.network w v
+      → (campaign ≡ w.campaigns s) ⊎ (campaign ≡ None) → IsAmong response w.network
+      → vote_in response ≡ Some vote → Step ids node_eq kind logs c w v
 
   -- a campaign, by the configs of the cluster
   abbrev pub CampaignIsStep : K → RaftStateIn K N I L C → Campaign K N L C → RaftStateIn K N I L C → Type 0

@@ -5,9 +5,13 @@
 -- Each handler has a step. A step has the record that the handler's contract promises of the state
 -- before and after the call, the message that the handler takes from the network, and the message that
 -- the server sends afterwards. A step is whole before its message is sent: what it changes is on disk.
-use Rattle.std.specs.Prelude.{◌≡◌, ◌⊎◌, ◌+◌, ◌<◌, ◌≤◌, ℕ, Bool, true, false, List, [], ◌∷◌, length, map, Option, Some, None, IsTrue}
+use Rattle.std.specs.Prelude.{◌≡◌, ◌⊎◌, ◌+◌, ◌<◌, ◌≤◌, ℕ, Bool, true, false, List, [], ◌∷◌, length, map, Option, Some, None, IsTrue, if◌then◌else◌}
+use Rattle.std.specs.Ordering.{partial_ge}
 use Rattle.raft_base.specs.declared.log_id.LogIdOf.{LogIdOf}
 use Rattle.raft_base.specs.LogId.{next_index}
+use Rattle.raft_base.specs.UTime.{moment_of, utime_of}
+use Rattle.raft_base.specs.Vote.{vote_cmp}
+use Rattle.raft_base.specs.declared.vote.VoteIn.{VoteIn}
 use Rattle.raft_handlers.specs.Append.{Answers, IfHigherVote}
 use Rattle.raft_handlers.specs.Campaign.{Campaign, Campaigns, CountsVoteOf}
 use Rattle.raft_handlers.specs.Compared.{LeaderMembers, compared}
@@ -21,7 +25,7 @@ use Rattle.raft_handlers.specs.Vote.{Grants}
 use Rattle.raft_handlers.specs.declared.message.AppendEntries.{AppendEntries}
 use Rattle.raft_handlers.specs.declared.message.InstallSnapshot.{InstallSnapshot}
 use Rattle.raft_handlers.specs.declared.message.Outcome.{Outcome}
-use Rattle.raft_handlers.specs.declared.message.Outcome.TheVariants.{HigherVote, Matches}
+use Rattle.raft_handlers.specs.declared.message.Outcome.TheVariants.{Conflict, HigherVote, Matches}
 use Rattle.raft_handlers.specs.declared.message.VoteRequest.{VoteRequest}
 use Rattle.raft_handlers.specs.declared.message.VoteResponse.{VoteResponse}
 use Rattle.raft_progress.specs.progress.Comparisons.{OrdMembers}
@@ -53,6 +57,16 @@ pub data Message (K N L C D : Type 0) : Type 0 where
   EntriesSent : AppendEntries L C K N D → Message K N L C D
   SnapshotSent : InstallSnapshot L C K N → Message K N L C D
   Answered : K → L → Outcome L C → Message K N L C D
+
+-- the vote of the server that has sent a response, if the response has it
+abbrev pub vote_in : {K N L C D : Type 0} → Message K N L C D → Option (VoteIn L)
+vote_in (VoteAsked request) = None
+vote_in (VoteAnswered from response) = Some response.vote
+vote_in (EntriesSent request) = None
+vote_in (SnapshotSent request) = None
+vote_in (Answered from leader (Matches upto)) = None
+vote_in (Answered from leader (Conflict at last)) = None
+vote_in (Answered from leader (HigherVote vote)) = Some vote
 
 -- the state of each server, its campaign if there is one, and every message that was ever sent
 pub record World (K N I L C D : Type 0) : Type 0 where
@@ -145,6 +159,21 @@ module _ {K N I L C D : Type 0} (ids : OrdMembers K) (node_eq : N → N → Bool
           ≡ None
       pub campaign : v.campaigns s ≡ w.campaigns s
       pub sends : v.network ≡ Answered s request.leader_id outcome ∷ w.network
+
+    -- the server takes the vote that a response has, if it is at least its own vote: `promise`. Its campaign
+    -- may be over then
+    pub record HearsVote : Type 0 where
+      pub vote : VoteIn L
+      pub response : Message K N L C D
+      pub message : IsAmong response w.network
+      pub has_vote : vote_in response ≡ Some vote
+      pub promised : Bool
+      pub answer : promised ≡ partial_ge (vote_cmp kind.order) vote (vote_of (w.servers s))
+      pub taken : (v.servers s) ≡ (if promised then record (w.servers s) {
+        vote = utime_of vote (moment_of (w.servers s).vote);
+      } else w.servers s)
+      pub campaign : (v.campaigns s ≡ w.campaigns s) ⊎ (v.campaigns s ≡ None)
+      pub sends : v.network ≡ w.network
 
     -- the server campaigns: `campaign`. Its effective membership has the configs of the cluster
     pub record StartsCampaign : Type 0 where
@@ -298,6 +327,7 @@ module _ {K N I L C D : Type 0} (ids : OrdMembers K) (node_eq : N → N → Bool
       OneVote : AnswersCandidate → DoesOne
       OneAppend : AnswersLeader → DoesOne
       OneSnapshot : AnswersSnapshotOf → DoesOne
+      OneHearing : HearsVote → DoesOne
       OneCampaign : StartsCampaign → DoesOne
       OneCount : CountsVote → DoesOne
       OneElection : IsElectedLeader → DoesOne

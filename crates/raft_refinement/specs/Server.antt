@@ -2,7 +2,7 @@
 --
 -- A log of raft_safety has an entry for each index from 1 on. The entry at index 0 starts the cluster,
 -- and is not in it.
-use Rattle.std.specs.Prelude.{◌≡◌, ◌<◌, ◌≤◌, ℕ, zero, suc, Bool, true, false, List, length, slice_get, Option, Some, None}
+use Rattle.std.specs.Prelude.{◌≡◌, ◌⊎◌, ◌<◌, ◌≤◌, ℕ, zero, suc, Bool, true, false, List, length, slice_get, Option, Some, None}
 use Rattle.std.specs.declared.cmp.Ordering.{Ordering}
 use Rattle.std.specs.declared.cmp.Ordering.TheVariants.{Less, Equal, Greater}
 use Rattle.raft_base.specs.declared.log_id.LogIdOf.{LogIdOf}
@@ -102,13 +102,14 @@ module _ {L C K D : Type 0} (k : Leaders L C K) (p : Place L C K D) where
     pub each : (i : ℕ) (id : LogIdOf C) → id_at ids i ≡ Some id → IsInLog p.first p.terms log id
 
   -- a state is that of a server after these events: its vote is not below the term that it has
-  -- reached, a vote for a candidate was granted, its log ids are those of its log, and it knows that
-  -- what is purged or committed is committed
+  -- reached, a vote for a candidate was granted or is of a term that the server has not reached, its log
+  -- ids are those of its log, and it knows that what is purged or committed is committed
   pub record IsServer (s : State L C) (es : List (Event C K D)) : Type 0 where
     pub in_use : IsAmong s.vote.leader_id p.leaders
     pub reached : term_after p.rank es ≤ p.rank (k.committed s.vote.leader_id)
     pub voted_for : (c : K) → s.vote.committed ≡ false → 0 < k.term_of s.vote.leader_id
         → k.voted s.vote.leader_id ≡ Some c → HasVoted (k.committed s.vote.leader_id) c es
+        ⊎ (term_after p.rank es < p.rank (k.committed s.vote.leader_id))
     pub log : ShowsLog s.ids (log_after es)
     pub purged : (i : ℕ) → s.purged_next ≡ suc (suc i)
         → KnowsCommitted p.rank p.quorum p.history es (suc i)

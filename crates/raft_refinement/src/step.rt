@@ -4,9 +4,9 @@
 //! in order.
 ghost use Rattle.std.specs.Prelude.{◌≡◌, IfOk, IfSome};
 ghost use Rattle.std.specs.Set.{ClonesAreEqual};
-ghost use Rattle.raft_refinement.specs.Called.{AppendIsStep, CampaignIsStep, CommitIsStep, CountIsStep, ElectionIsStep, InstallIsStep, ProposalIsStep, RestartIsStep, SendIsStep, VoteIsStep};
+ghost use Rattle.raft_refinement.specs.Called.{AppendIsStep, CampaignIsStep, CommitIsStep, CountIsStep, ElectionIsStep, HearingIsStep, InstallIsStep, ProposalIsStep, RestartIsStep, SendIsStep, VoteIsStep};
 
-use raft_base::{Instant, LeaderIdentity, Node, NodeId};
+use raft_base::{Instant, LeaderIdentity, Node, NodeId, VoteIn};
 use raft_handlers::{
     AppendEntries, Candidate, Changes, HandlerError, InstallSnapshot, Leader, Response,
     SnapshotChanges, State, Stored, VoteRequest, VoteResponse, handle_append_entries,
@@ -55,6 +55,20 @@ pub fn answers_snapshot<NID: NodeId, N: Node, I: Instant, L: LeaderIdentity<Id =
     let made = handle_install_snapshot(state, request);
     let _after = state.log_ids.key_log_ids();
     made
+}
+
+/// Takes the vote that a response has, as `promise` of the state does: only if it is at least the
+/// present one.
+pub fn hears<NID: NodeId, N: Node, I: Instant, L: LeaderIdentity<Id = NID> + Drop, D>(
+    state: &mut State<NID, N, I, L>,
+    vote: VoteIn<L>,
+) -> bool
+    ensures step { HearingIsStep D NID.Ord N.eq L.LeaderIdentity L.Committed.Ord
+        vote state.old state.new }
+{
+    let promised = state.promise(vote);
+    let _after = state.log_ids.key_log_ids();
+    promised
 }
 
 /// Begins a campaign, as `Candidate::campaign` does.
