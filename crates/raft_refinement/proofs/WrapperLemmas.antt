@@ -1,6 +1,7 @@
 -- What the calls of the handlers are, by the rules.
 use Rattle.std.specs.Cmp.{IsTotalOrder}
 use Rattle.std.specs.Option.{option_map_or}
+use Rattle.std.specs.Ordering.{partial_ge}
 use Rattle.std.specs.Prelude.{
   ◌≤◌,
   suc,
@@ -29,6 +30,7 @@ use mathlib.Core.Bool.{beq}
 use Rattle.raft_base.specs.LogId.{id_le, id_lt, next_index}
 use Rattle.raft_base.specs.LogIdLawful.{optional-log_id_cmp-total}
 use Rattle.raft_base.specs.UTime.{moment_of, utime_of}
+use Rattle.raft_base.specs.Vote.{vote_cmp}
 use Rattle.raft_base.specs.declared.log_id.LogIdOf.{LogIdOf}
 use Rattle.raft_base.specs.declared.vote.VoteIn.{VoteIn}
 use Rattle.raft_handlers.specs.Append.{Answers, IfHigherVote}
@@ -68,7 +70,7 @@ use Rattle.raft_state.proofs.lemmas.log_id_list.ExtendLemmas.{is_key_list}
 use Rattle.raft_refinement.specs.Appending.{AnswersByRule, Follows, IsSent, IsSnapshotSentTo}
 use Rattle.raft_refinement.specs.Electing.{HasCommitted, KnowsMatches, KnowsVotes, match_of}
 use Rattle.raft_refinement.specs.Seen.{leaders_of, seen}
-use Rattle.raft_refinement.specs.Server.{IsInHistory, IsInLog, IsServer, IsWhole, KnowsCommitted, Place, State}
+use Rattle.raft_refinement.specs.Server.{IsInHistory, IsInLog, IsServer, IsWhole, KnowsCommitted, Leaders, Place, State}
 use Rattle.raft_refinement.specs.Voting.{CampaignsByRule}
 use Rattle.raft_refinement.proofs.AppendingLemmas.{appends_keep_rules, at_within, installs_keep_rules}
 use Rattle.raft_refinement.proofs.ElectingLemmas.{commits_by_rule, counts_keep_votes, elects_by_rule}
@@ -83,7 +85,7 @@ use Rattle.raft_refinement.proofs.SeenLemmas.{
   not_higher,
   sound_is_whole,
 }
-use Rattle.raft_refinement.proofs.VotingLemmas.{campaigns_keep_rule}
+use Rattle.raft_refinement.proofs.VotingLemmas.{campaigns_keep_rule, hears_by_rule}
 
 pub same_outcome : {L C X : Type 0} (x y : Response L C × X) → (let a : Result (Response L C × X) HandlerError = Ok x in
     let b : Result (Response L C × X) HandlerError = Ok y in a ≡ b) → x.0.outcome ≡ y.0.outcome
@@ -492,3 +494,20 @@ module _ {K N L C : Type 0} (eq : K → K → Bool) (old new : Campaign K N L C)
       by : (b : Bool) → grants ≡ b → new ≡ record old { votes = new.votes }
       by true e = (counts e).rest
       by false e = subst (λ (x : Campaign K N L C). x ≡ record old { votes = x.votes }) (sym (ignored e)) refl
+
+-- a server that takes the vote of a response is the server of the same events
+pub hearing_serves : {K N I L C D : Type 0} (k : Leaders L C K) (p : Place L C K D) (vote : VoteIn L) (old new : RaftStateIn K N I L C)
+    (promised : Bool) → IsInHistory k p (seen old) → IsAmong vote.leader_id p.leaders
+    → promised ≡ partial_ge (vote_cmp k.order) vote (vote_of old)
+    → new ≡ (if promised then record old { vote = utime_of vote (moment_of old.vote) } else old)
+    → IsServer k p (seen new) (p.history.events p.server)
+hearing_serves {K} {N} {I} {L} {C} k p vote old new promised is in_use answer taken = by promised refl
+  where
+    by : (b : Bool) → promised ≡ b → IsServer k p (seen new) (p.history.events p.server)
+    by true e =
+        let call : new ≡ record old { vote = utime_of vote (moment_of old.vote) } = rw e at taken in
+        subst (λ (s : State L C). IsServer k p s (p.history.events p.server)) (sym (ap seen call))
+        (hears_by_rule k p is.ranked (p.history.events p.server) vote (seen old) is.server in_use (sym answer ∙ e))
+    by false e =
+        let call : new ≡ old = rw e at taken in
+        subst (λ (s : State L C). IsServer k p s (p.history.events p.server)) (sym (ap seen call)) is.server

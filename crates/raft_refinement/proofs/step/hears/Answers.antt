@@ -1,0 +1,36 @@
+use Rattle.raft_handlers.specs.Compared.{LeaderMembers}
+use Rattle.raft_progress.specs.progress.Comparisons.{OrdMembers}
+use Rattle.raft_refinement.proofs.CalledLemmas.{Keeps, hearing_step}
+use Rattle.raft_refinement.proofs.step.hears.Goals as goal
+
+pub returns : goal.returns
+returns g c =
+    let ids : OrdMembers _ = record {
+      partial_cmp = g.NID.PartialOrd.partial_cmp;
+      eq = g.NID.PartialEq.eq;
+      cmp = g.NID.Ord.cmp;
+    } in
+    let logs : OrdMembers _ = record {
+      partial_cmp = g.L.Committed.PartialOrd.partial_cmp;
+      eq = g.L.Committed.PartialEq.eq;
+      cmp = g.L.Committed.Ord.cmp;
+    } in
+    let kind : LeaderMembers _ _ _ = record {
+      is_default = g.L.Default.is_default;
+      eq = g.L.PartialEq.eq;
+      order = g.L.LeaderIdentity.order;
+      term_of = g.L.LeaderIdentity.term_of;
+      voted = g.L.LeaderIdentity.voted;
+      committed = g.L.LeaderIdentity.committed;
+      leader_of = g.L.LeaderIdentity.leader_of;
+      committed_of = g.L.LeaderIdentity.committed_of;
+      same_as = g.L.LeaderIdentity.same_as;
+    } in
+    let keeps : Keeps logs c.args.state.now c.promise-promised.new.self = record {
+      sound = c.promise-promised.ensures.sound;
+      keys = rw c.key_log_ids-after.ensures.keys at c.key_log_ids-after.ensures.canonical;
+    } in
+    record {
+      step = hearing_step _ _ ids g.N.PartialEq.eq kind logs c.args.vote c.args.state.now c.promise-promised.new.self
+          c.promise-promised.result keeps c.promise-promised.ensures.answer c.promise-promised.ensures.taken;
+    }
