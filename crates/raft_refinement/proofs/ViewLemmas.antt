@@ -321,7 +321,7 @@ module _ {K N I L C D : Type 0} {ids : OrdMembers K} (node_eq : N → N → Bool
         sends = ap seen_network d.sends
             ∙ ap (λ (ms : List (SeenMessage L C K)). SeenPromised d.response.vote ∷ ms) (sent d.response.granted refl)
             ∙ ap (λ (x : VoteIn L). SeenPromised x ∷ (if d.response.granted
-                then SeenVoted s d.request.vote ∷ seen_network w.network else seen_network w.network)) d.call.answer;
+            then SeenVoted s d.request.vote ∷ seen_network w.network else seen_network w.network)) d.call.answer;
       });
       grows = one_sent (VoteAnswered s d.response) d.sends;
       campaign = same_campaign d.campaign (one_sent (VoteAnswered s d.response) d.sends);
