@@ -518,9 +518,10 @@ has to do for it, and what is outside. `laws::runs_are_safe` of `{crate}` says:
 
 So two servers never apply entries with different log ids at one index. A *run* is what a cluster can
 do. It begins with servers that have not voted, and whose logs have at most the entry at index 0. Then
-one server after another takes a *step*: a call of a handler, a send, a restart, or a purge of its log.
-A call may take a message from the network, and a step may put one there. The network keeps each
-message, so a server may receive it at any later time, more than once, or never.
+one server after another takes a *step*: a call of a handler, a vote that it takes from a response, a
+send, a restart, or a purge of its log. A call may take a message from the network, and a step may put
+one there. The network keeps each message, so a server may receive it at any later time, more than
+once, or never.
 
 A step says how the server's state before it and its state after it differ. For a call that is what the
 contract of the handler promises, and the handler is proved to keep its contract. What a step requires
