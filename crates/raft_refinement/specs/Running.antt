@@ -1,6 +1,6 @@
 -- Runs of servers that change their states only as the contracts of raft_handlers say, over a network
 -- that may lose, delay, duplicate and reorder messages. The members are fixed. Servers crash and
--- restart, purge their logs, and install snapshots.
+-- restart, purge their logs, install snapshots, and take the votes that responses have.
 --
 -- Each handler has a step. A step has the record that the handler's contract promises of the state
 -- before and after the call, the message that the handler takes from the network, and the message that

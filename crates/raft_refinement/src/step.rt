@@ -1,6 +1,6 @@
 //! Calls of the handlers are steps of a run.
 //!
-//! Each function calls a handler, and reads the keys of the log after it for the proof alone: they are
+//! Each function makes one call, and reads the keys of the log after it for the proof alone: they are
 //! in order.
 ghost use Rattle.std.specs.Prelude.{◌≡◌, IfOk, IfSome};
 ghost use Rattle.std.specs.Set.{ClonesAreEqual};
