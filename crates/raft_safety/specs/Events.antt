@@ -1,5 +1,5 @@
 -- What servers do, and the history of a cluster.
-use Rattle.std.specs.Prelude.{◌⊎◌, ◌≤◌, ℕ, List, [], ◌∷◌, length}
+use Rattle.std.specs.Prelude.{◌⊎◌, ◌≤◌, ℕ, Bool, List, [], ◌∷◌, length}
 use Rattle.raft_safety.specs.Log.{Entry, IsPrefix}
 
 -- an event at one server. Votes, acknowledgements and terms are durable, also the term of an append. A
@@ -28,6 +28,12 @@ pub record History (T ID D : Type 0) : Type 0 where
   -- the log of the leader of a term: what it has written so far, after the log with which it was
   -- elected
   pub leader_log : T → ID → List (Entry T D)
+  -- whether a candidate of a term counts votes by the config of its first so many entries, and whether
+  -- a leader of a term has counted acknowledgements by that. What a server knows to be committed
+  -- decides this if a config counts once it is applied, so it is part of what was done. If a config
+  -- counts from its append on, no rule reads the two
+  pub votes_by : T → ID → ℕ → Bool
+  pub acks_by : T → ID → ℕ → Bool
 
 module _ {T ID D : Type 0} where
   -- the rank of the term that a server has reached

@@ -5,10 +5,13 @@ pub mod Rules
 pub mod Safety
 pub mod Apply
 pub mod Configs
+pub mod AppliedConfigs
 pub mod Ranks
 pub mod Execution
+pub mod AppliedExecution
 pub mod AppendEntries
 pub mod Trace
+pub mod AppliedTrace
 pub mod Inner
 pub mod Scenarios
 pub mod Checker

@@ -33,8 +33,9 @@ use Rattle.raft_safety.specs.Log.{Entry, IsPrefix, last_term}
 use Rattle.raft_safety.specs.Events.{Event, GrantVote, LateVote, Append, Ack, Restart, History, term_after, voted_after, log_after}
 use Rattle.raft_safety.specs.Configs.{effective_config, is_quorum, QuorumsIntersect}
 use Rattle.raft_safety.specs.Ranks.{IsAmong}
-use Rattle.raft_safety.specs.Safety.{IsSafe}
-use Rattle.raft_safety.specs.Execution.{IsExecution}
+use Rattle.raft_safety.specs.Facts.{Counting, appended}
+use Rattle.raft_safety.specs.Safety.{IsSafeBy}
+use Rattle.raft_safety.specs.Execution.{IsExecutionBy, Next}
 use Rattle.raft_safety.specs.declared.rule.Rule.{Rule}
 use Rattle.raft_safety.specs.declared.rule.Rule.TheVariants.{
   PassedTerm,
@@ -161,19 +162,6 @@ module _ {T ID D M : Type 0} (k : Tests T ID D M) where
       if same_leader t c u d then leader_log_in es u d ++ e ∷ [] else leader_log_in es u d
   leader_log_in (x ∷ es) u d = leader_log_in es u d
 
-  -- the history of a trace: the events of each server, and the logs of candidates and leaders
-  abbrev pub history : List (TraceEvent T ID D) → History T ID D
-  history es = record {
-    events = events_in es;
-    candidate_log = candidate_log_in es;
-    leader_log = leader_log_in es;
-  }
-
-  -- the histories before the last event, before the one before it, and so on
-  abbrev pub earlier : List (TraceEvent T ID D) → List (History T ID D)
-  earlier [] = []
-  earlier (e ∷ es) = history es ∷ earlier es
-
 -- the terms of all campaigns
 abbrev pub campaign_terms : {T ID D : Type 0} → List (TraceEvent T ID D) → List T
 campaign_terms [] = []
@@ -210,6 +198,51 @@ module _ {T ID D M : Type 0} (k : Tests T ID D M) where
   abbrev pub hold_no_config : List (Entry T D) → Bool
   hold_no_config [] = true
   hold_no_config (e ∷ es) = is_none (k.config_of e.content) && hold_no_config es
+
+-- ---- which configs are known to be committed
+
+module _ {T ID D M : Type 0} (k : Tests T ID D M) where
+  -- a leader has recorded a commit of these entries, in a term and counted at a length that are early
+  -- enough
+  abbrev pub is_known_by : (T → ℕ → Bool) → List (Entry T D) → List (TraceEvent T ID D) → Bool
+  is_known_by early p [] = false
+  is_known_by early p (Committed c t n m ∷ es) =
+      (early t m && is_prefix k p (take n (leader_log_in k es t c))) || is_known_by early p es
+  is_known_by early p (x ∷ es) = is_known_by early p es
+
+  -- the term of a commit is earlier than this one
+  abbrev pub is_earlier : T → T → ℕ → Bool
+  is_earlier t u m = nat_lt (k.rank u) (k.rank t)
+
+  -- if a config counts once it is applied: a candidate may count votes by the config of its first so
+  -- many entries, because it is the initial one or a leader of an earlier term has committed it
+  abbrev pub counts_votes : List (TraceEvent T ID D) → T → ID → ℕ → Bool
+  counts_votes es t c a =
+      hold_no_config k (take a (candidate_log_in k es t c))
+      || is_known_by (is_earlier t) (take a (candidate_log_in k es t c)) es
+
+  -- a leader has recorded a commit that it counted by the config of its first so many entries
+  abbrev pub counts_acks : List (TraceEvent T ID D) → T → ID → ℕ → Bool
+  counts_acks [] u d a = false
+  counts_acks (Committed c t n m ∷ es) u d a =
+      (same_leader k t c u d && nat_eq m a) || counts_acks es u d a
+  counts_acks (x ∷ es) u d a = counts_acks es u d a
+
+  -- the history of a trace: the events of each server, and the logs of candidates and leaders, and what
+  -- these counted by if a config counts once it is applied
+  abbrev pub history : List (TraceEvent T ID D) → History T ID D
+  history es = record {
+    events = events_in k es;
+    candidate_log = candidate_log_in k es;
+    leader_log = leader_log_in k es;
+    votes_by = counts_votes es;
+    acks_by = counts_acks es;
+  }
+
+  -- the histories before the last event, before the one before it, and so on
+  abbrev pub earlier : List (TraceEvent T ID D) → List (History T ID D)
+  earlier [] = []
+  earlier (e ∷ es) = history es ∷ earlier es
 
 -- ---- tests of one server's events
 
@@ -249,15 +282,87 @@ abbrev pub unless : Bool → Rule → Option Rule → Option Rule
 unless holds rule rest = if holds then rest else Some rule
 
 module _ {T ID D M : Type 0} (k : Tests T ID D M) where
-  -- a set is a quorum of the config in effect in a log
-  abbrev pub is_quorum_of_log : List (Entry T D) → (ID → Bool) → Bool
-  is_quorum_of_log log set = is_quorum k.rank k.config_of k.initial k.quorum_of log set
-
   -- there was a campaign in this term of this candidate
   abbrev pub has_campaigned : T → ID → List (TraceEvent T ID D) → Bool
   has_campaigned u d [] = false
   has_campaigned u d (Campaigned c t ∷ es) = same_leader k t c u d || has_campaigned u d es
   has_campaigned u d (x ∷ es) = has_campaigned u d es
+
+  -- a leader of a term of at most this rank has recorded a commit of at least these entries
+  abbrev pub is_known_committed : ℕ → List (Entry T D) → List (TraceEvent T ID D) → Bool
+  is_known_committed r p [] = false
+  is_known_committed r p (Committed c t n m ∷ es) =
+      (nat_le (k.rank t) r && is_prefix k p (take n (leader_log_in k es t c)))
+      || is_known_committed r p es
+  is_known_committed r p (x ∷ es) = is_known_committed r p es
+
+  -- the entries that some server applied, from the first one on, when it did so
+  abbrev pub WasApplied : List (Entry T D) → List (TraceEvent T ID D) → Type 0
+  WasApplied a [] = ⊥
+  WasApplied a (Applied s t c n ∷ es) = (a ≡ take n (log_in k es s)) ⊎ WasApplied a es
+  WasApplied a (x ∷ es) = WasApplied a es
+
+-- what the test has to know of how configs are used: which candidates are elected, and which rule a
+-- leader breaks first by a commit or by an entry that holds a config, if it holds one
+pub record ConfigTests (T ID D M : Type 0) : Type 0 where
+  pub is_elected : List (TraceEvent T ID D) → T → ID → Bool
+  pub commit_rule : List (TraceEvent T ID D) → T → ID → ℕ → ℕ → Option Rule
+  pub config_rule : List (TraceEvent T ID D) → T → ID → Option M → Option Rule
+
+module _ {T ID D M : Type 0} (k : Tests T ID D M) (conf : ConfigTests T ID D M) where
+  -- the first rule that an event breaks after the earlier ones: rules about its leader come first
+  abbrev pub broken_rule_by : TraceEvent T ID D → List (TraceEvent T ID D) → Option Rule
+  broken_rule_by (Campaigned c t) es =
+      unless (not (has_campaigned k t c es)) CampaignedTwice
+      (unless (nat_lt (term_in k es c) (k.rank t)) PassedTerm None)
+  broken_rule_by (Granted s t c) es =
+      unless (has_campaigned k t c es) NoCampaign
+      (unless (nat_le (term_in k es s) (k.rank t) && nat_lt (voted_in k es s) (k.rank t)) PassedTerm
+      (unless (not (k.same_id c s)) OwnCandidate
+      (unless (is_up_to_date k (candidate_log_in k es t c) (log_in k es s)) CandidateBehind None)))
+  broken_rule_by (Appended s t c n sent) es =
+      unless (conf.is_elected es t c) NotElected
+      (unless (nat_le (term_in k es s) (k.rank t)) PassedTerm
+      (unless (nat_le n (length (log_in k es s))) MissingEntries
+      (unless (is_prefix k (common_prefix k (log_in k es s) (leader_log_in k es t c))
+      (take n (log_in k es s) ++ sent)) DropsMatching
+      (unless (is_prefix k (take n (log_in k es s) ++ sent) (log_in k es s)
+      || is_prefix k (take n (log_in k es s) ++ sent) (leader_log_in k es t c)) ForeignEntries None))))
+  broken_rule_by (Acked s t c n) es =
+      unless (conf.is_elected es t c) NotElected
+      (unless (nat_le (k.rank t) (term_in k es s)) TermNotReached
+      (unless (nat_le n (length (leader_log_in k es t c))) NotWritten
+      (unless (has_kept k (k.rank t) (take n (leader_log_in k es t c)) (events_in k es s)) NotKept None)))
+  broken_rule_by (Restarted s n) es =
+      unless (nat_le (durable k (events_in k es s)) n) LostAcked
+      (unless (nat_le n (length (log_in k es s))) MissingEntries None)
+  broken_rule_by (Wrote c t e) es =
+      unless (conf.is_elected es t c) NotElected
+      (unless (k.same_term e.term t) OtherTerm (conf.config_rule es t c (k.config_of e.content)))
+  broken_rule_by (Committed c t n m) es =
+      unless (conf.is_elected es t c) NotElected
+      (unless (nat_lt (length (candidate_log_in k es t c)) n) EarlierTerm (conf.commit_rule es t c n m))
+  broken_rule_by (Applied s t c n) es =
+      unless (conf.is_elected es t c) NotElected
+      (unless (nat_le n (length (leader_log_in k es t c))) NotWritten
+      (unless (is_prefix k (take n (leader_log_in k es t c)) (log_in k es s)) NotInLog
+      (unless (is_known_committed k (k.rank t) (take n (leader_log_in k es t c)) es) NotCommitted None)))
+
+  -- an event is allowed after the earlier ones if it breaks no rule
+  abbrev pub is_allowed_by : TraceEvent T ID D → List (TraceEvent T ID D) → Bool
+  is_allowed_by e es = is_none (broken_rule_by e es)
+
+  -- quorums of the initial config intersect, and each event is allowed after the earlier ones
+  abbrev pub are_allowed_by : List (TraceEvent T ID D) → Bool
+  are_allowed_by [] = k.intersect k.initial k.initial
+  are_allowed_by (e ∷ es) = is_allowed_by e es && are_allowed_by es
+
+-- ---- each config counts from its append on
+
+module _ {T ID D M : Type 0} (k : Tests T ID D M) where
+  -- a set is a quorum of the config in effect in a log
+  abbrev pub is_quorum_of_log : List (Entry T D) → (ID → Bool) → Bool
+  is_quorum_of_log log set = is_quorum k.rank k.config_of k.initial k.quorum_of log set
 
   -- a candidate is elected: it and a quorum of the config in its log have voted for it in the term,
   -- each in time
@@ -274,14 +379,6 @@ module _ {T ID D M : Type 0} (k : Tests T ID D M) where
       (same_leader k t c u d && hold_no_config k (drop n log)) || is_config_committed u d log es
   is_config_committed u d log (x ∷ es) = is_config_committed u d log es
 
-  -- a leader of a term of at most this rank has recorded a commit of at least these entries
-  abbrev pub is_known_committed : ℕ → List (Entry T D) → List (TraceEvent T ID D) → Bool
-  is_known_committed r p [] = false
-  is_known_committed r p (Committed c t n m ∷ es) =
-      (nat_le (k.rank t) r && is_prefix k p (take n (leader_log_in k es t c)))
-      || is_known_committed r p es
-  is_known_committed r p (x ∷ es) = is_known_committed r p es
-
   -- the first rule that a leader breaks by an entry that holds this config, if it holds one
   abbrev pub proposal_rule : List (TraceEvent T ID D) → T → ID → Option M → Option Rule
   proposal_rule es t c None = None
@@ -290,62 +387,28 @@ module _ {T ID D M : Type 0} (k : Tests T ID D M) where
       (unless (k.intersect m m) ApartQuorums
       (unless (is_config_committed t c (leader_log_in k es t c) es) EarlyConfig None))
 
-  -- the first rule that an event breaks after the earlier ones: rules about its leader come first
-  abbrev pub broken_rule : TraceEvent T ID D → List (TraceEvent T ID D) → Option Rule
-  broken_rule (Campaigned c t) es =
-      unless (not (has_campaigned t c es)) CampaignedTwice
-      (unless (nat_lt (term_in k es c) (k.rank t)) PassedTerm None)
-  broken_rule (Granted s t c) es =
-      unless (has_campaigned t c es) NoCampaign
-      (unless (nat_le (term_in k es s) (k.rank t) && nat_lt (voted_in k es s) (k.rank t)) PassedTerm
-      (unless (not (k.same_id c s)) OwnCandidate
-      (unless (is_up_to_date k (candidate_log_in k es t c) (log_in k es s)) CandidateBehind None)))
-  broken_rule (Appended s t c n sent) es =
-      unless (is_elected es t c) NotElected
-      (unless (nat_le (term_in k es s) (k.rank t)) PassedTerm
-      (unless (nat_le n (length (log_in k es s))) MissingEntries
-      (unless (is_prefix k (common_prefix k (log_in k es s) (leader_log_in k es t c))
-      (take n (log_in k es s) ++ sent)) DropsMatching
-      (unless (is_prefix k (take n (log_in k es s) ++ sent) (log_in k es s)
-      || is_prefix k (take n (log_in k es s) ++ sent) (leader_log_in k es t c)) ForeignEntries None))))
-  broken_rule (Acked s t c n) es =
-      unless (is_elected es t c) NotElected
-      (unless (nat_le (k.rank t) (term_in k es s)) TermNotReached
-      (unless (nat_le n (length (leader_log_in k es t c))) NotWritten
-      (unless (has_kept k (k.rank t) (take n (leader_log_in k es t c)) (events_in k es s)) NotKept None)))
-  broken_rule (Restarted s n) es =
-      unless (nat_le (durable k (events_in k es s)) n) LostAcked
-      (unless (nat_le n (length (log_in k es s))) MissingEntries None)
-  broken_rule (Wrote c t e) es =
-      unless (is_elected es t c) NotElected
-      (unless (k.same_term e.term t) OtherTerm (proposal_rule es t c (k.config_of e.content)))
-  broken_rule (Committed c t n m) es =
-      unless (is_elected es t c) NotElected
-      (unless (nat_lt (length (candidate_log_in k es t c)) n) EarlierTerm
-      (unless (nat_le n m) CountedEarly
+  -- the first rule that a leader breaks by a commit
+  abbrev pub commit_rule : List (TraceEvent T ID D) → T → ID → ℕ → ℕ → Option Rule
+  commit_rule es t c n m =
+      unless (nat_le n m) CountedEarly
       (unless (nat_le m (length (leader_log_in k es t c))) NotWritten
       (unless (is_quorum_of_log (take m (leader_log_in k es t c))
-      (λ v. has_acked k t c n (events_in k es v))) NoQuorum None))))
-  broken_rule (Applied s t c n) es =
-      unless (is_elected es t c) NotElected
-      (unless (nat_le n (length (leader_log_in k es t c))) NotWritten
-      (unless (is_prefix k (take n (leader_log_in k es t c)) (log_in k es s)) NotInLog
-      (unless (is_known_committed (k.rank t) (take n (leader_log_in k es t c)) es) NotCommitted None)))
+      (λ v. has_acked k t c n (events_in k es v))) NoQuorum None))
+
+  abbrev pub appended_tests : ConfigTests T ID D M
+  appended_tests = record { is_elected = is_elected; commit_rule = commit_rule; config_rule = proposal_rule }
+
+  -- the first rule that an event breaks after the earlier ones
+  abbrev pub broken_rule : TraceEvent T ID D → List (TraceEvent T ID D) → Option Rule
+  broken_rule e es = broken_rule_by k appended_tests e es
 
   -- an event is allowed after the earlier ones if it breaks no rule
   abbrev pub is_allowed : TraceEvent T ID D → List (TraceEvent T ID D) → Bool
-  is_allowed e es = is_none (broken_rule e es)
+  is_allowed e es = is_allowed_by k appended_tests e es
 
   -- quorums of the initial config intersect, and each event is allowed after the earlier ones
   abbrev pub are_allowed : List (TraceEvent T ID D) → Bool
-  are_allowed [] = k.intersect k.initial k.initial
-  are_allowed (e ∷ es) = is_allowed e es && are_allowed es
-
-  -- the entries that some server applied, from the first one on, when it did so
-  abbrev pub WasApplied : List (Entry T D) → List (TraceEvent T ID D) → Type 0
-  WasApplied a [] = ⊥
-  WasApplied a (Applied s t c n ∷ es) = (a ≡ take n (log_in k es s)) ⊎ WasApplied a es
-  WasApplied a (x ∷ es) = WasApplied a es
+  are_allowed es = are_allowed_by k appended_tests es
 
 -- ---- what a trace shows
 
@@ -367,12 +430,19 @@ module _ {T ID D M : Type 0} (k : Tests T ID D M) where
       (t u : T) → IsAmong t (campaign_terms es) → IsAmong u (campaign_terms es)
       → k.rank t ≡ k.rank u → t ≡ u
 
-  -- a trace is an execution, so its history is safe, and no two servers apply different entries
-  pub record IsSafeTrace (es : List (TraceEvent T ID D)) : Type 0 where
-    pub execution : IsExecution k.rank k.config_of k.initial k.quorum_of (history k es) (earlier k es)
-    pub safe : IsSafe k.rank (is_quorum k.rank k.config_of k.initial k.quorum_of) (history k es)
+  -- a trace is an execution by these steps, so its history is safe, and no two servers apply different
+  -- entries
+  pub record IsSafeTraceBy (counting : Counting T ID D) (step : History T ID D → History T ID D → Type 0)
+      (es : List (TraceEvent T ID D)) : Type 0 where
+    pub execution : IsExecutionBy step (history k es) (earlier k es)
+    pub safe : IsSafeBy k.rank counting (history k es)
     pub applied : (a b : List (Entry T D)) → WasApplied k a es → WasApplied k b es
         → IsPrefix a b ⊎ IsPrefix b a
+
+  abbrev pub IsSafeTrace : List (TraceEvent T ID D) → Type 0
+  IsSafeTrace es =
+      IsSafeTraceBy (appended (is_quorum k.rank k.config_of k.initial k.quorum_of))
+      (Next k.rank k.config_of k.initial k.quorum_of) es
 
 -- a trace that passes the test is an execution
 abbrev pub TracesAreExecutions : Type 0 → Type 0 → Type 0 → Type 0 → Type 0

@@ -3,6 +3,9 @@
 //!
 //! `T` are terms or committed leader ids, `ID` server ids, `D` contents of entries, `M` configs.
 ghost use Rattle.raft_safety.specs.AppendEntries.{ConsistencyChecksSuffice};
+ghost use Rattle.raft_safety.specs.AppliedConfigs.{AppliedConfigsAreSafe, SettledConfigsSuffice};
+ghost use Rattle.raft_safety.specs.AppliedExecution.{AppliedExecutionsAreSafe, AppliedExecutionsKeepFacts, AppliedStateMachinesAgree};
+ghost use Rattle.raft_safety.specs.AppliedTrace.{AppliedTracesAreExecutions};
 ghost use Rattle.raft_safety.specs.Apply.{StateMachinesAgree};
 ghost use Rattle.raft_safety.specs.Configs.{ChangingMembersAreSafe, JointMembersAreSafe, StepsAreCoherent};
 ghost use Rattle.raft_safety.specs.Execution.{ExecutionsAreSafe, ExecutionsKeepFacts, StateMachinesAgreeAtAllTimes};
@@ -36,6 +39,26 @@ pub fn joint_members_are_safe<T, ID: Copy + Ord, D>()
     ensures steps { StepsAreCoherent ID ID.eq }
 {}
 
+/// If each config counts once it is applied, and candidates and leaders count by the rule, every
+/// history in which each server keeps the rules is safe.
+///
+/// The rule: a candidate or leader counts by a config that it knows to be committed and that at most
+/// one config follows. Quorums of each new config intersect each other and those of the one before.
+/// A config is known to a candidate if a leader of an earlier term has committed it. It is known to
+/// a leader also if the leader has committed it, counting by an earlier config.
+pub fn applied_configs_are_safe<T, ID: Copy + Ord, D, M>()
+    ensures { AppliedConfigsAreSafe T ID D M }
+{}
+
+/// The rules of applied configs follow from rules that each server can test by itself.
+///
+/// These are: a leader appends a config only once the last one in its log is known to it. A
+/// candidate or leader counts by a config that is known to it, or that another config follows in its
+/// log.
+pub fn settled_configs_suffice<T, ID: Copy + Ord, D, M>()
+    ensures { SettledConfigsSuffice T ID D M }
+{}
+
 /// Every execution is safe at each of its times, over a network that may lose, delay, duplicate and
 /// reorder messages, if quorums of its initial membership intersect.
 ///
@@ -50,6 +73,17 @@ pub fn executions_are_safe<T, ID: Copy + Ord, D, M>()
 /// at every later time, if quorums of its initial membership intersect.
 pub fn facts_are_stable<T, ID: Copy + Ord, D, M>()
     ensures { ExecutionsKeepFacts T ID D M }
+{}
+
+/// Every execution in which each config counts once it is applied is safe at each of its times, if
+/// quorums of its initial config intersect. What was so at one time is so at every later time.
+///
+/// Of what a server may apply at one time of it, and what another may apply at another time, one is
+/// a prefix of the other.
+pub fn applied_executions_are_safe<T, ID: Copy + Ord, D, M>()
+    ensures safe { AppliedExecutionsAreSafe T ID D M }
+    ensures stable { AppliedExecutionsKeepFacts T ID D M }
+    ensures applied { AppliedStateMachinesAgree T ID D M }
 {}
 
 /// If a follower compares the terms of a leader's entries with those of its log, and truncates its
@@ -69,6 +103,13 @@ pub fn state_machines_agree<T, ID: Copy + Ord, D>()
 /// So it is safe, and no two servers in it have applied different entries at one index.
 pub fn traces_are_executions<T, ID: Copy + Ord, D, M>()
     ensures { TracesAreExecutions T ID D M }
+{}
+
+/// A recorded trace of a cluster in which each config counts once it is applied, each of whose
+/// events passes the test of such traces after the earlier ones, is an execution. So it is safe, and
+/// no two servers in it have applied different entries at one index.
+pub fn applied_traces_are_executions<T, ID: Copy + Ord, D, M>()
+    ensures { AppliedTracesAreExecutions T ID D M }
 {}
 
 /// The terms in use of any total order have ranks, by which the other theorems compare them: term

@@ -47,6 +47,15 @@ pub enum Rule {
     EarlierTerm,
     /// A quorum is counted when the committed entries are written.
     CountedEarly,
+    /// If a config counts once it is applied, a leader counts by a config among the entries that it
+    /// commits.
+    CountedLate,
+    /// If a config counts once it is applied, a leader counts by a config that it knows to be
+    /// committed: by a leader of an earlier term, or by itself, counting by an earlier config.
+    UnknownConfig,
+    /// If a config counts once it is applied, at most one config follows the one that a leader counts
+    /// by, among the entries that it commits.
+    ConfigsFollow,
     /// A quorum has acknowledged what is committed.
     NoQuorum,
     /// A server applies entries that are in its log and in the leader's log.
@@ -85,6 +94,9 @@ impl Rule {
             }
             Rule::EarlierTerm => "the last committed entry is of an earlier term",
             Rule::CountedEarly => "the quorum is counted before the entries are written",
+            Rule::CountedLate => "the quorum is counted by a config after the committed entries",
+            Rule::UnknownConfig => "the config of the quorum is not known to be committed",
+            Rule::ConfigsFollow => "more than one config follows the config of the quorum",
             Rule::NoQuorum => "no quorum has acknowledged the entries",
             Rule::NotInLog => "the server's log does not begin with the leader's entries",
             Rule::NotCommitted => "the entries are not known to be committed",

@@ -28,10 +28,10 @@ use Rattle.std.proofs.lemmas.Bool.{cases_lt, false≢true, eqb-true, eq-eqb}
 use Rattle.std.proofs.lemmas.List.{length-take, length-take-le, length-append, take-take, take_at}
 use Rattle.raft_safety.specs.Log.{Entry, IsPrefix, last_term}
 use Rattle.raft_safety.specs.Events.{Event, History, log_after, term_after}
-use Rattle.raft_safety.specs.Facts.{IsElected}
-use Rattle.raft_safety.specs.Rules.{EventsFollowRules, FollowsRaft, MayAppend}
-use Rattle.raft_safety.specs.Safety.{IsSafe}
-use Rattle.raft_safety.specs.AppendEntries.{ConsistencyCheckSuffices, MayAppendAndAck, after_append_entries, has_next}
+use Rattle.raft_safety.specs.Facts.{Counting, IsElectedBy}
+use Rattle.raft_safety.specs.Rules.{EventsFollowRulesBy, FollowsRaftBy, MayAppendBy}
+use Rattle.raft_safety.specs.Safety.{IsSafeBy}
+use Rattle.raft_safety.specs.AppendEntries.{ConsistencyCheckSufficesBy, MayAppendAndAckBy, after_append_entries, has_next}
 use Rattle.raft_safety.proofs.lemmas.PrefixLemmas.{
   append-nil,
   prefix_itself,
@@ -44,10 +44,10 @@ use Rattle.raft_safety.proofs.lemmas.PrefixLemmas.{
 use Rattle.raft_safety.proofs.lemmas.ServerLemmas.{had_now, log_from, written_is_from}
 use Rattle.raft_safety.proofs.lemmas.SafetyLemmas.{match_from}
 
-module _ {T ID D : Type 0} (rank : T → ℕ) (quorum : List (Entry T D) → (ID → Bool) → Bool) (h : History T ID D)
-    (lawful : FollowsRaft rank quorum h) (safe : IsSafe rank quorum h) where
-  module _ (s : ID) (ds : List (Event T ID D)) (ok : EventsFollowRules rank quorum h s ds) (t : T) (c : ID)
-      (term : term_after rank ds ≤ rank t) (el : IsElected rank quorum h t c) where
+module _ {T ID D : Type 0} (rank : T → ℕ) (counting : Counting T ID D) (h : History T ID D)
+    (lawful : FollowsRaftBy rank counting h) (safe : IsSafeBy rank counting h) where
+  module _ (s : ID) (ds : List (Event T ID D)) (ok : EventsFollowRulesBy rank counting h s ds) (t : T) (c : ID)
+      (term : term_after rank ds ≤ rank t) (el : IsElectedBy rank counting h t c) where
     abbrev log : List (Entry T D)
     log = log_after ds
 
@@ -61,11 +61,11 @@ module _ {T ID D : Type 0} (rank : T → ℕ) (quorum : List (Entry T D) → (ID
     same_by_term (suc i) a b e =
         let x : length (take (suc i) log) ≡ suc i = length-take-le (suc i) log a in
         let y : length (take (suc i) lead) ≡ suc i = length-take-le (suc i) lead b in
-        match_from rank quorum h lawful safe.election_safety safe.leader_completeness (suc (term_after rank ds)) (suc (rank t))
+        match_from rank counting h lawful safe.election_safety safe.leader_completeness (suc (term_after rank ds)) (suc (rank t))
         (take (suc i) log) (take (suc i) lead)
-        (log_from rank quorum h lawful (suc (term_after rank ds)) s ds ok (omega arith) (take (suc i) log)
+        (log_from rank counting h lawful (suc (term_after rank ds)) s ds ok (omega arith) (take (suc i) log)
         (had_now ds (take (suc i) log) (prefix_take (suc i) log)))
-        (written_is_from rank quorum h lawful t c el (take (suc i) lead) (prefix_take (suc i) lead))
+        (written_is_from rank counting h lawful t c el (take (suc i) lead) (prefix_take (suc i) lead))
         (omega (arith, x)) (x ∙ sym y) e
 
     -- a common prefix ends before the first conflict
@@ -87,7 +87,7 @@ module _ {T ID D : Type 0} (rank : T → ℕ) (quorum : List (Entry T D) → (ID
     -- an append, and the acknowledgement after it
     both : (n : ℕ) (new : List (Entry T D)) → n ≤ length lead → IsPrefix (take n lead) new
         → ((p : List (Entry T D)) → IsPrefix p log → IsPrefix p lead → IsPrefix p new)
-        → IsPrefix new log ⊎ IsPrefix new lead → MayAppendAndAck rank quorum h ds t c n new
+        → IsPrefix new log ⊎ IsPrefix new lead → MayAppendAndAckBy rank counting h ds t c n new
     both n new written has keeps of_these = record {
       append = record { term = term; elected = el; keeps = keeps; of_these = of_these };
       ack = record {
@@ -100,7 +100,7 @@ module _ {T ID D : Type 0} (rank : T → ℕ) (quorum : List (Entry T D) → (ID
 
     cut : (i : ℕ) → suc i ≤ length lead
         → (suc i ≤ length log → last_term rank (take (suc i) log) ≡ last_term rank (take (suc i) lead) → ⊥)
-        → MayAppend rank quorum h ds t c (take i log)
+        → MayAppendBy rank counting h ds t c (take i log)
     cut i le apart = record {
       term = term;
       elected = el;
@@ -112,7 +112,7 @@ module _ {T ID D : Type 0} (rank : T → ℕ) (quorum : List (Entry T D) → (ID
 
     may_append : (es : List (Entry T D)) (i : ℕ) → i + length es ≤ length lead
         → take (i + length es) lead ≡ take i lead ++ es → i ≤ length log → take i log ≡ take i lead
-        → MayAppendAndAck rank quorum h ds t c (i + length es) (after_append_entries rank i log es)
+        → MayAppendAndAckBy rank counting h ds t c (i + length es) (after_append_entries rank i log es)
     may_append [] i within are fits same =
         both (i + length {A = Entry T D} []) log within (rw (are ∙ append-nil (take i lead) ∙ sym same) (prefix_take i log))
         (λ p x y. x) (inl (prefix_itself log))
@@ -154,8 +154,8 @@ module _ {T ID D : Type 0} (rank : T → ℕ) (quorum : List (Entry T D) → (ID
             → (suc i + length es ≤ length lead
             → take (suc i + length es) lead ≡ take (suc i) lead ++ es → suc i ≤ length log
             → take (suc i) log ≡ take (suc i) lead
-            → MayAppendAndAck rank quorum h ds t c (suc i + length es) (after_append_entries rank (suc i) log es))
-            → MayAppendAndAck rank quorum h ds t c n
+            → MayAppendAndAckBy rank counting h ds t c (suc i + length es) (after_append_entries rank (suc i) log es))
+            → MayAppendAndAckBy rank counting h ds t c n
             (if b then after_append_entries rank (suc i) log es else take i log ++ (e ∷ es))
         next true holds rest =
             let lt : i < length log =
@@ -177,7 +177,7 @@ module _ {T ID D : Type 0} (rank : T → ℕ) (quorum : List (Entry T D) → (ID
             (sym fails
             ∙ both_true (lt-ltb i (length log) lt)
             (eq-eqb (last_term rank (take (suc i) log)) (rank e.term) (last ∙ lead_last))) in
-            let may : MayAppendAndAck rank quorum h ds t c n (take n lead) =
+            let may : MayAppendAndAckBy rank counting h ds t c n (take n lead) =
             both n (take n lead) within (prefix_itself (take n lead))
             (λ p x y.
             prefix_within y (prefix_take n lead)
@@ -187,7 +187,7 @@ module _ {T ID D : Type 0} (rank : T → ℕ) (quorum : List (Entry T D) → (ID
 
     install : (i : ℕ) → suc i ≤ length lead → (b : Bool)
         → has_next rank i log (last_term rank (take (suc i) lead)) ≡ b
-        → MayAppendAndAck rank quorum h ds t c (suc i) (if b then log else take (suc i) lead)
+        → MayAppendAndAckBy rank counting h ds t c (suc i) (if b then log else take (suc i) lead)
     install i le true has =
         let u : ℕ = last_term rank (take (suc i) lead) in
         let fits : i < length log =
@@ -211,7 +211,7 @@ module _ {T ID D : Type 0} (rank : T → ℕ) (quorum : List (Entry T D) → (ID
         (omega (arith, length-take-le (suc i) lead le, shared i p x y apart)))
         (inr (prefix_take (suc i) lead))
 
-  pub check_suffices : ConsistencyCheckSuffices rank quorum h
+  pub check_suffices : ConsistencyCheckSufficesBy rank counting h
   check_suffices = record {
     append_entries = λ s ds t c i es ok term sent fits last.
         may_append s ds ok t c term sent.elected es i sent.within sent.are fits

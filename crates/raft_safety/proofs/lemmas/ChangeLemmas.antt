@@ -5,8 +5,8 @@ use Rattle.std.proofs.lemmas.Bool.{cases_lt}
 use Rattle.std.proofs.lemmas.List.{length-take-le}
 use Rattle.raft_safety.specs.Log.{Entry, IsPrefix, last_term}
 use Rattle.raft_safety.specs.Events.{History}
-use Rattle.raft_safety.specs.Facts.{IsCommitted, IsElected}
-use Rattle.raft_safety.specs.Safety.{IsSafe}
+use Rattle.raft_safety.specs.Facts.{Counting, IsCommittedBy, IsElectedBy, appended}
+use Rattle.raft_safety.specs.Safety.{IsSafeBy}
 use Rattle.raft_safety.specs.Configs.{FollowsRaftWithConfigs, MayProposeConfig, QuorumsIntersect, effective_config, is_quorum}
 use Rattle.raft_safety.proofs.lemmas.PrefixLemmas.{prefix_itself, prefix_trans, prefix_take, prefix_within, prefix_same, take_within}
 use Rattle.raft_safety.proofs.lemmas.ServerLemmas.{
@@ -33,8 +33,8 @@ use Rattle.raft_safety.proofs.lemmas.SafetyLemmas.{safe}
 
 module _ {T ID D M : Type 0} (rank : T → ℕ) (config_of : D → Option M) (initial : M) (quorum_of : M → (ID → Bool) → Bool)
     (h : History T ID D) (laws : FollowsRaftWithConfigs rank config_of initial quorum_of h) where
-  abbrev Q : List (Entry T D) → (ID → Bool) → Bool
-  Q = is_quorum rank config_of initial quorum_of
+  abbrev Q : Counting T ID D
+  Q = appended (is_quorum rank config_of initial quorum_of)
 
   abbrev members : List (Entry T D) → M
   members l = effective_config config_of initial l
@@ -53,7 +53,7 @@ module _ {T ID D M : Type 0} (rank : T → ℕ) (config_of : D → Option M) (in
     term : T
     leader : ID
     below : rank term < bound
-    elected : IsElected rank Q h term leader
+    elected : IsElectedBy rank Q h term leader
     now : List (Entry T D)
     now_length : length now ≡ suc place
     of_log : IsPrefix now l
@@ -63,7 +63,7 @@ module _ {T ID D M : Type 0} (rank : T → ℕ) (config_of : D → Option M) (in
     before_now : IsPrefix before now
     done : ℕ
     counted_at : ℕ
-    committed : IsCommitted rank Q h term leader done counted_at
+    committed : IsCommittedBy rank Q h term leader done counted_at
     within : counted_at ≤ place
     covers : upto config_of before ≤ done
     meets : Meet (members before) (members l)
@@ -137,7 +137,7 @@ module _ {T ID D M : Type 0} (rank : T → ℕ) (config_of : D → Option M) (in
   point_before bound l x =
       prefix_within (prefix_take x.done (h.leader_log x.term x.leader))
       (prefix_trans x.before_now x.of_leader)
-      (omega (arith, point_length bound l x, x.committed.within, x.within, x.before_length))
+      (omega (arith, point_length bound l x, x.committed.is_quorum.within, x.within, x.before_length))
 
   point_log : (bound : ℕ) (l : List (Entry T D)) (x : Change bound l) → IsPrefix (point bound l x) l
   point_log bound l x =
@@ -159,7 +159,7 @@ module _ {T ID D M : Type 0} (rank : T → ℕ) (config_of : D → Option M) (in
   now_term : (bound : ℕ) (l : List (Entry T D)) (x : Change bound l) → last_term rank x.now ≡ rank x.term
   now_term bound l x =
       last_written rank Q h laws.keeps_rules x.term x.leader x.elected x.now x.of_leader
-      (omega (arith, x.now_length, x.committed.own_term, x.committed.within, x.within))
+      (omega (arith, x.now_length, x.committed.own_term, x.committed.is_quorum.within, x.within))
 
   now_upto : (bound : ℕ) (l : List (Entry T D)) (x : Change bound l)
       → (upto config_of x.now ≡ suc x.place) × (members x.now ≡ members l)
@@ -229,7 +229,7 @@ module _ {T ID D M : Type 0} (rank : T → ℕ) (config_of : D → Option M) (in
           let e : y.term ≡ x.term =
           laws.keeps_rules.ranks y.term x.term y.leader x.leader y.elected x.elected
           (omega (arith, y_le, x_le)) in
-          let el : IsElected rank Q h x.term y.leader = rw e at y.elected in
+          let el : IsElectedBy rank Q h x.term y.leader = rw e at y.elected in
           let f : y.leader ≡ x.leader = one x.term y.leader x.leader x.below el x.elected in
           let y_of : IsPrefix y.now (h.leader_log x.term x.leader) =
           of_same rank Q h laws.keeps_rules y.now y.term x.term y.leader x.leader e f y.of_leader in
@@ -238,7 +238,7 @@ module _ {T ID D M : Type 0} (rank : T → ℕ) (config_of : D → Option M) (in
           x.of_leader y_of (prefix_trans x.before_now x.of_leader) (prefix_trans y.before_now y_of)
           x.now_length y.now_length x.before_length y.before_length (now_upto bound a x).0
           (now_upto bound b y).0 x.covers y.covers le later
-          (omega (arith, y.committed.within, y.within)) in
+          (omega (arith, y.committed.is_quorum.within, y.within)) in
           let g : members b ≡ members a =
           sym (now_upto bound b y).1 ∙ ap members (sym same) ∙ (now_upto bound a x).1 in
           rw g x.itself
@@ -276,12 +276,12 @@ module _ {T ID D M : Type 0} (rank : T → ℕ) (config_of : D → Option M) (in
   -- each later leader has what is committed: by induction over the length at which it was counted
   abbrev Held : (u : T) (d : ID) → ℕ → Type 0
   Held u d size =
-      (t : T) (c : ID) (n m : ℕ) → m < size → IsCommitted rank Q h t c n m → rank t < rank u
+      (t : T) (c : ID) (n m : ℕ) → m < size → IsCommittedBy rank Q h t c n m → rank t < rank u
       → IsPrefix (take n (h.leader_log t c)) (h.candidate_log u d)
 
   held_step : (u : T) (d : ID) → OneBelow rank Q h laws.keeps_rules (rank u)
-      → CompleteBelow rank Q h laws.keeps_rules (rank u) → IsElected rank Q h u d → (t : T) (c : ID) (n m : ℕ)
-      → Held u d m → IsCommitted rank Q h t c n m → rank t < rank u → IsPrefix (take n (h.leader_log t c)) (h.candidate_log u d)
+      → CompleteBelow rank Q h laws.keeps_rules (rank u) → IsElectedBy rank Q h u d → (t : T) (c : ID) (n m : ℕ)
+      → Held u d m → IsCommittedBy rank Q h t c n m → rank t < rank u → IsPrefix (take n (h.leader_log t c)) (h.candidate_log u d)
   held_step u d one complete el t c n m held done lt =
       by_term (cases_lt (rank t) (last_term rank b)) (cases_lt (last_term rank b) (rank t)) (cases_lt (length b) n)
     where
@@ -295,7 +295,7 @@ module _ {T ID D M : Type 0} (rank : T → ℕ) (config_of : D → Option M) (in
       p = take n (h.leader_log t c)
 
       a_length : length a ≡ m
-      a_length = length-take-le m (h.leader_log t c) done.written
+      a_length = length-take-le m (h.leader_log t c) done.is_quorum.written
 
       a_from : IsFrom rank Q h laws.keeps_rules (suc (rank t)) a
       a_from =
@@ -310,7 +310,7 @@ module _ {T ID D M : Type 0} (rank : T → ℕ) (config_of : D → Option M) (in
       a_term : last_term rank a ≡ rank t
       a_term =
           last_written rank Q h laws.keeps_rules t c done.elected a (prefix_take m (h.leader_log t c))
-          (omega (arith, a_length, done.own_term, done.within))
+          (omega (arith, a_length, done.own_term, done.is_quorum.within))
 
       ahead' : IsAhead rank Q h laws.keeps_rules t n b → IsPrefix p b
       ahead' past = ahead rank Q h laws.keeps_rules t u c d n m one complete done lt el past
@@ -323,7 +323,7 @@ module _ {T ID D M : Type 0} (rank : T → ℕ) (config_of : D → Option M) (in
       offered_a : IsPrefix (h.candidate_log t c) a
       offered_a =
           prefix_within (candidate_start rank Q h laws.keeps_rules t c done.elected)
-          (prefix_take m (h.leader_log t c)) (omega (arith, a_length, done.own_term, done.within))
+          (prefix_take m (h.leader_log t c)) (omega (arith, a_length, done.own_term, done.is_quorum.within))
 
       y_term : (y : Change (rank u) b) → rank y.term ≤ last_term rank b
       y_term y =
@@ -340,11 +340,11 @@ module _ {T ID D M : Type 0} (rank : T → ℕ) (config_of : D → Option M) (in
           let f : o.term ≡ t =
           laws.keeps_rules.ranks o.term t o.leader c o.elected done.elected
           (sym (last_of rank Q h laws.keeps_rules (rank u) b o) ∙ e) in
-          let el' : IsElected rank Q h t o.leader = rw f at o.elected in
+          let el' : IsElectedBy rank Q h t o.leader = rw f at o.elected in
           let g : o.leader ≡ c = one t o.leader c lt el' done.elected in
           prefix_within
           (of_same rank Q h laws.keeps_rules b o.term t o.leader c f g o.start)
-          (prefix_take m (h.leader_log t c)) (omega (arith, a_length, less, done.within))
+          (prefix_take m (h.leader_log t c)) (omega (arith, a_length, less, done.is_quorum.within))
 
       -- a shorter log: its quorum intersects that of the commit, and a server of both shows the rest
       behind : ((last_term rank b < rank t) ⊎ ((last_term rank b ≡ rank t) × (length b < n))) → IsPrefix p b
@@ -352,7 +352,7 @@ module _ {T ID D M : Type 0} (rank : T → ℕ) (config_of : D → Option M) (in
           let has_b : (y : Change (rank u) b) → IsPrefix (point (rank u) b y) a =
           λ y. in_a y less (cases_lt (rank y.term) (rank t)) in
           let (v, x, w) =
-          two_logs (rank u) a b one a_from' b_from has_a has_b done.having el.voters done.is_quorum
+          two_logs (rank u) a b one a_from' b_from has_a has_b done.having el.voters done.is_quorum.is_quorum
           el.is_quorum in
           by_voter rank Q h laws.keeps_rules t u c d v n m one complete done lt el (el.have_voted v w)
           (done.have_acked v x)
@@ -375,7 +375,7 @@ module _ {T ID D M : Type 0} (rank : T → ℕ) (config_of : D → Option M) (in
       by_term (inr le) (inr ge) (inr long) = ahead' (inr (omega (arith, le, ge), long))
 
   held_upto : (u : T) (d : ID) → OneBelow rank Q h laws.keeps_rules (rank u)
-      → CompleteBelow rank Q h laws.keeps_rules (rank u) → IsElected rank Q h u d → (size : ℕ) → Held u d size
+      → CompleteBelow rank Q h laws.keeps_rules (rank u) → IsElectedBy rank Q h u d → (size : ℕ) → Held u d size
   held_upto u d one complete el zero t c n m less done lt = absurd (omega arith)
   held_upto u d one complete el (suc size) t c n m less done lt =
       held_step u d one complete el t c n m
@@ -384,7 +384,7 @@ module _ {T ID D M : Type 0} (rank : T → ℕ) (config_of : D → Option M) (in
       done lt
 
   one_at : (u : T) → OneBelow rank Q h laws.keeps_rules (rank u) → CompleteBelow rank Q h laws.keeps_rules (rank u)
-      → (c d : ID) → IsElected rank Q h u c → IsElected rank Q h u d → c ≡ d
+      → (c d : ID) → IsElectedBy rank Q h u c → IsElectedBy rank Q h u d → c ≡ d
   one_at u one complete c d x y =
       let a = h.candidate_log u c in let b = h.candidate_log u d in
       let (v, in_x, in_y) =
@@ -409,15 +409,15 @@ module _ {T ID D M : Type 0} (rank : T → ℕ) (config_of : D → Option M) (in
         complete = λ t u c d n m lt done less el. complete_of t u c d n m (cases_lt (rank u) k) lt done less el;
       }
     where
-      one_of : (t : T) (c d : ID) → ((rank t < k) ⊎ (k ≤ rank t)) → rank t < suc k → IsElected rank Q h t c
-          → IsElected rank Q h t d → c ≡ d
+      one_of : (t : T) (c d : ID) → ((rank t < k) ⊎ (k ≤ rank t)) → rank t < suc k → IsElectedBy rank Q h t c
+          → IsElectedBy rank Q h t d → c ≡ d
       one_of t c d (inl early) lt x y = b.one t c d early x y
       one_of t c d (inr late) lt x y =
           let e : k ≡ rank t = omega arith in
           let b' : Below (rank t) = rw e at b in one_at t b'.one b'.complete c d x y
 
       complete_of : (t u : T) (c d : ID) (n m : ℕ) → ((rank u < k) ⊎ (k ≤ rank u)) → rank u < suc k
-          → IsCommitted rank Q h t c n m → rank t < rank u → IsElected rank Q h u d
+          → IsCommittedBy rank Q h t c n m → rank t < rank u → IsElectedBy rank Q h u d
           → IsPrefix (take n (h.leader_log t c)) (h.candidate_log u d)
       complete_of t u c d n m (inl early) lt done less el = b.complete t u c d n m early done less el
       complete_of t u c d n m (inr late) lt done less el =
@@ -433,7 +433,7 @@ module _ {T ID D M : Type 0} (rank : T → ℕ) (config_of : D → Option M) (in
       }
   below (suc k) = below_step k (below k)
 
-  pub changing_is_safe : IsSafe rank Q h
+  pub changing_is_safe : IsSafeBy rank Q h
   changing_is_safe =
       safe rank Q h laws.keeps_rules (λ t c d x y. (below (suc (rank t))).one t c d (omega arith) x y)
       (λ t u c d n m done lt el. (below (suc (rank u))).complete t u c d n m (omega arith) done lt el)

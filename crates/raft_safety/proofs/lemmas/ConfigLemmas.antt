@@ -12,7 +12,7 @@ module _ {M : Type 0} where
   place zero (Some m) = 1
   place zero None = 0
 
-  place_fits : (n k : ℕ) (o : Option M) → n ≤ k → place n o ≤ suc k
+  pub place_fits : (n k : ℕ) (o : Option M) → n ≤ k → place n o ≤ suc k
   place_fits zero k None le = omega arith
   place_fits zero k (Some m) le = omega arith
   place_fits (suc n) k o le = omega arith
@@ -33,7 +33,7 @@ module _ {M : Type 0} where
   place_grows (suc n) zero o le = absurd (omega arith)
   place_grows (suc n) (suc k) o le = omega arith
 
-  place_none : (n : ℕ) (o : Option M) → o ≡ None → n ≤ 0 → place n o ≤ 0
+  pub place_none : (n : ℕ) (o : Option M) → o ≡ None → n ≤ 0 → place n o ≤ 0
   place_none zero None e le = omega arith
   place_none zero (Some m) e le = absurd (cc)
   place_none (suc n) o e le = absurd (omega arith)

@@ -1,7 +1,7 @@
 -- Prefixes of logs, and their last terms.
 use Rattle.std.specs.Prelude.{◌≡◌, ◌<◌, ◌≤◌, ℕ, List, [], ◌∷◌, ◌++◌, length, take, drop}
 use Rattle.std.proofs.Common.{refl, sym, ap, ◌∙◌, arith, append_assoc}
-use Rattle.std.proofs.lemmas.List.{take-append-drop, take-take, take_at, length-append}
+use Rattle.std.proofs.lemmas.List.{take-append-drop, take-append-le, take-take, take_at, length-append}
 use Rattle.std.proofs.lemmas.List.Prefix.{front_fits, front_rest}
 use Rattle.raft_safety.specs.Log.{AllOfTerm, Entry, IsPrefix, last_term, last_term_or}
 
@@ -43,6 +43,11 @@ module _ {T D : Type 0} where
 
   pub take_within : (n m : ℕ) (a : List (Entry T D)) → n ≤ m → IsPrefix (take n a) (take m a)
   take_within n m a le = rw (take-take n m a le) at (prefix_take n (take m a))
+
+  pub take_of_prefix : (n : ℕ) (a b : List (Entry T D)) → IsPrefix a b → n ≤ length a
+      → take n b ≡ take n a
+  take_of_prefix n a b st le =
+      ap (λ (l : List (Entry T D)). take n l) st.is ∙ take-append-le n a st.rest le
 
   pub empty_last : (rank : T → ℕ) (a : List (Entry T D)) → length a ≡ 0 → last_term rank a ≡ 0
   empty_last rank [] e = refl

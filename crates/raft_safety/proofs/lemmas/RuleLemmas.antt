@@ -18,6 +18,7 @@ use Rattle.std.specs.Prelude.{
   ◌++◌,
   length,
   take,
+  drop,
 }
 use Rattle.std.proofs.Common.{refl, ap, ◌∙◌}
 use Rattle.raft_safety.specs.declared.rule.Rule.TheVariants.{
@@ -30,6 +31,9 @@ use Rattle.raft_safety.specs.declared.rule.Rule.TheVariants.{
   EarlyConfig,
   EarlierTerm,
   CountedEarly,
+  CountedLate,
+  UnknownConfig,
+  ConfigsFollow,
   NoQuorum,
   NotInLog,
   NotCommitted,
@@ -63,8 +67,9 @@ use Rattle.raft_safety.specs.Trace.{
   is_up_to_date,
   events_in,
   has_campaigned,
-  is_elected,
-  is_allowed,
+  ConfigTests,
+  is_allowed_by,
+  commit_rule,
   has_kept,
   has_acked,
   candidate_log_in,
@@ -77,6 +82,7 @@ use Rattle.raft_safety.specs.Trace.{
   unless,
   proposal_rule,
 }
+use Rattle.raft_safety.specs.AppliedTrace.{hold_at_most_one, intersect_rule, known_commit_rule, may_count_acks}
 use Rattle.raft_safety.specs.declared.rule.Rule.{Rule}
 
 -- ---- tests in a row
@@ -138,22 +144,7 @@ first_two false b c p q r o e = absurd (cc)
 
 -- ---- an event breaks no rule exactly if it passes each test
 
-module _ {T ID D M : Type 0} (k : Tests T ID D M) where
-  -- a leader's first n entries are committed, by a quorum of the config after its first m entries
-  abbrev pub is_committed : List (TraceEvent T ID D) → T → ID → ℕ → ℕ → Bool
-  is_committed es t c n m =
-      is_elected k es t c && (nat_lt (length (candidate_log_in k es t c)) n && (nat_le n m
-      && (nat_le m (length (leader_log_in k es t c))
-      && is_quorum_of_log k (take m (leader_log_in k es t c))
-      (λ v. has_acked k t c n (events_in k es v)))))
-
-  -- a leader may append an entry that holds this config, if it holds one
-  abbrev pub may_propose : List (TraceEvent T ID D) → T → ID → Option M → Bool
-  may_propose es t c None = true
-  may_propose es t c (Some m) =
-      k.intersect (effective_config k.config_of k.initial (leader_log_in k es t c)) m
-      && (k.intersect m m && is_config_committed k t c (leader_log_in k es t c) es)
-
+module _ {T ID D M : Type 0} (k : Tests T ID D M) (conf : ConfigTests T ID D M) where
   -- an event passes each test after the earlier ones
   abbrev pub passes : TraceEvent T ID D → List (TraceEvent T ID D) → Bool
   passes (Campaigned c t) es =
@@ -163,36 +154,29 @@ module _ {T ID D M : Type 0} (k : Tests T ID D M) where
       && (has_campaigned k t c es && (not (k.same_id c s)
       && is_up_to_date k (candidate_log_in k es t c) (log_in k es s)))
   passes (Appended s t c n sent) es =
-      nat_le (term_in k es s) (k.rank t) && (is_elected k es t c
+      nat_le (term_in k es s) (k.rank t) && (conf.is_elected es t c
       && (nat_le n (length (log_in k es s))
       && (is_prefix k (common_prefix k (log_in k es s) (leader_log_in k es t c))
       (take n (log_in k es s) ++ sent)
       && (is_prefix k (take n (log_in k es s) ++ sent) (log_in k es s)
       || is_prefix k (take n (log_in k es s) ++ sent) (leader_log_in k es t c)))))
   passes (Acked s t c n) es =
-      nat_le (k.rank t) (term_in k es s) && (is_elected k es t c
+      nat_le (k.rank t) (term_in k es s) && (conf.is_elected es t c
       && (nat_le n (length (leader_log_in k es t c))
       && has_kept k (k.rank t) (take n (leader_log_in k es t c)) (events_in k es s)))
   passes (Restarted s n) es =
       nat_le (durable k (events_in k es s)) n && nat_le n (length (log_in k es s))
   passes (Wrote c t e) es =
-      is_elected k es t c && (k.same_term e.term t && may_propose es t c (k.config_of e.content))
-  passes (Committed c t n m) es = is_committed es t c n m
+      conf.is_elected es t c && (k.same_term e.term t && is_none (conf.config_rule es t c (k.config_of e.content)))
+  passes (Committed c t n m) es =
+      conf.is_elected es t c && (nat_lt (length (candidate_log_in k es t c)) n && is_none (conf.commit_rule es t c n m))
   passes (Applied s t c n) es =
-      is_elected k es t c && (nat_le n (length (leader_log_in k es t c))
+      conf.is_elected es t c && (nat_le n (length (leader_log_in k es t c))
       && (is_prefix k (take n (leader_log_in k es t c)) (log_in k es s)
       && is_known_committed k (k.rank t) (take n (leader_log_in k es t c)) es))
 
-  proposal_tests : (es : List (TraceEvent T ID D)) (t : T) (c : ID) (o : Option M)
-      → is_none (proposal_rule k es t c o) ≡ may_propose es t c o
-  proposal_tests es t c None = refl
-  proposal_tests es t c (Some m) =
-      rules_3 (k.intersect (effective_config k.config_of k.initial (leader_log_in k es t c)) m)
-      (k.intersect m m) (is_config_committed k t c (leader_log_in k es t c) es) ApartConfigs ApartQuorums
-      EarlyConfig
-
   pub allowed_by_rules : (e : TraceEvent T ID D) (es : List (TraceEvent T ID D))
-      → is_allowed k e es ≡ passes e es
+      → is_allowed_by k conf e es ≡ passes e es
   allowed_by_rules (Campaigned c t) es =
       let new : Bool = not (has_campaigned k t c es) in
       let term : Bool = nat_lt (term_in k es c) (k.rank t) in
@@ -205,7 +189,7 @@ module _ {T ID D M : Type 0} (k : Tests T ID D M) where
       rules_4 campaigned term other log NoCampaign PassedTerm OwnCandidate CandidateBehind
       ∙ and_swap campaigned term (other && log)
   allowed_by_rules (Appended s t c n sent) es =
-      let elected : Bool = is_elected k es t c in
+      let elected : Bool = conf.is_elected es t c in
       let term : Bool = nat_le (term_in k es s) (k.rank t) in
       let within : Bool = nat_le n (length (log_in k es s)) in
       let keeps : Bool =
@@ -216,7 +200,7 @@ module _ {T ID D M : Type 0} (k : Tests T ID D M) where
       rules_5 elected term within keeps of_these NotElected PassedTerm MissingEntries DropsMatching ForeignEntries
       ∙ and_swap elected term (within && (keeps && of_these))
   allowed_by_rules (Acked s t c n) es =
-      let elected : Bool = is_elected k es t c in
+      let elected : Bool = conf.is_elected es t c in
       let term : Bool = nat_le (k.rank t) (term_in k es s) in
       let written : Bool = nat_le n (length (leader_log_in k es t c)) in
       let kept : Bool = has_kept k (k.rank t) (take n (leader_log_in k es t c)) (events_in k es s) in
@@ -226,18 +210,74 @@ module _ {T ID D M : Type 0} (k : Tests T ID D M) where
       rules_2 (nat_le (durable k (events_in k es s)) n) (nat_le n (length (log_in k es s))) LostAcked
       MissingEntries
   allowed_by_rules (Wrote c t e) es =
-      rule_first (is_elected k es t c) NotElected
-      (unless (k.same_term e.term t) OtherTerm (proposal_rule k es t c (k.config_of e.content)))
-      ∙ ap (λ x. is_elected k es t c && x)
-      (rule_first (k.same_term e.term t) OtherTerm (proposal_rule k es t c (k.config_of e.content))
-      ∙ ap (λ x. k.same_term e.term t && x) (proposal_tests es t c (k.config_of e.content)))
+      rule_first (conf.is_elected es t c) NotElected
+      (unless (k.same_term e.term t) OtherTerm (conf.config_rule es t c (k.config_of e.content)))
+      ∙ ap (λ x. conf.is_elected es t c && x)
+      (rule_first (k.same_term e.term t) OtherTerm (conf.config_rule es t c (k.config_of e.content)))
   allowed_by_rules (Committed c t n m) es =
-      rules_5 (is_elected k es t c) (nat_lt (length (candidate_log_in k es t c)) n) (nat_le n m)
-      (nat_le m (length (leader_log_in k es t c)))
-      (is_quorum_of_log k (take m (leader_log_in k es t c)) (λ v. has_acked k t c n (events_in k es v)))
-      NotElected EarlierTerm CountedEarly NotWritten NoQuorum
+      let own : Bool = nat_lt (length (candidate_log_in k es t c)) n in
+      rule_first (conf.is_elected es t c) NotElected (unless own EarlierTerm (conf.commit_rule es t c n m))
+      ∙ ap (λ x. conf.is_elected es t c && x) (rule_first own EarlierTerm (conf.commit_rule es t c n m))
   allowed_by_rules (Applied s t c n) es =
-      rules_4 (is_elected k es t c) (nat_le n (length (leader_log_in k es t c)))
+      rules_4 (conf.is_elected es t c) (nat_le n (length (leader_log_in k es t c)))
       (is_prefix k (take n (leader_log_in k es t c)) (log_in k es s))
       (is_known_committed k (k.rank t) (take n (leader_log_in k es t c)) es) NotElected NotWritten NotInLog
       NotCommitted
+
+-- ---- each config counts from its append on
+
+module _ {T ID D M : Type 0} (k : Tests T ID D M) where
+  -- a leader's first n entries, the last of its own term, are committed by a quorum of the config after
+  -- its first m entries
+  abbrev pub may_commit : List (TraceEvent T ID D) → T → ID → ℕ → ℕ → Bool
+  may_commit es t c n m =
+      nat_le n m && (nat_le m (length (leader_log_in k es t c))
+      && is_quorum_of_log k (take m (leader_log_in k es t c))
+      (λ v. has_acked k t c n (events_in k es v)))
+
+  -- a leader may append an entry that holds this config
+  abbrev pub may_propose : List (TraceEvent T ID D) → T → ID → M → Bool
+  may_propose es t c m =
+      k.intersect (effective_config k.config_of k.initial (leader_log_in k es t c)) m
+      && (k.intersect m m && is_config_committed k t c (leader_log_in k es t c) es)
+
+  pub commit_tests : (es : List (TraceEvent T ID D)) (t : T) (c : ID) (n m : ℕ)
+      → is_none (commit_rule k es t c n m) ≡ may_commit es t c n m
+  commit_tests es t c n m =
+      rules_3 (nat_le n m) (nat_le m (length (leader_log_in k es t c)))
+      (is_quorum_of_log k (take m (leader_log_in k es t c)) (λ v. has_acked k t c n (events_in k es v)))
+      CountedEarly NotWritten NoQuorum
+
+  pub proposal_tests : (es : List (TraceEvent T ID D)) (t : T) (c : ID) (m : M)
+      → is_none (proposal_rule k es t c (Some m)) ≡ may_propose es t c m
+  proposal_tests es t c m =
+      rules_3 (k.intersect (effective_config k.config_of k.initial (leader_log_in k es t c)) m)
+      (k.intersect m m) (is_config_committed k t c (leader_log_in k es t c) es) ApartConfigs ApartQuorums
+      EarlyConfig
+
+-- ---- each config counts once it is applied
+
+module _ {T ID D M : Type 0} (k : Tests T ID D M) where
+  -- a leader's first n entries, the last of its own term, are committed by a quorum of the config of its
+  -- first m entries
+  abbrev pub may_commit_known : List (TraceEvent T ID D) → T → ID → ℕ → ℕ → Bool
+  may_commit_known es t c n m =
+      nat_le m n && (nat_le n (length (leader_log_in k es t c)) && (may_count_acks k es t c m
+      && (hold_at_most_one k (drop m (take n (leader_log_in k es t c)))
+      && is_quorum_of_log k (take m (leader_log_in k es t c))
+      (λ v. has_acked k t c n (events_in k es v)))))
+
+  pub known_commit_tests : (es : List (TraceEvent T ID D)) (t : T) (c : ID) (n m : ℕ)
+      → is_none (known_commit_rule k es t c n m) ≡ may_commit_known es t c n m
+  known_commit_tests es t c n m =
+      rules_5 (nat_le m n) (nat_le n (length (leader_log_in k es t c))) (may_count_acks k es t c m)
+      (hold_at_most_one k (drop m (take n (leader_log_in k es t c))))
+      (is_quorum_of_log k (take m (leader_log_in k es t c)) (λ v. has_acked k t c n (events_in k es v)))
+      CountedLate NotWritten UnknownConfig ConfigsFollow NoQuorum
+
+  pub intersect_tests : (es : List (TraceEvent T ID D)) (t : T) (c : ID) (m : M)
+      → is_none (intersect_rule k es t c (Some m))
+      ≡ (k.intersect (effective_config k.config_of k.initial (leader_log_in k es t c)) m && k.intersect m m)
+  intersect_tests es t c m =
+      rules_2 (k.intersect (effective_config k.config_of k.initial (leader_log_in k es t c)) m)
+      (k.intersect m m) ApartConfigs ApartQuorums

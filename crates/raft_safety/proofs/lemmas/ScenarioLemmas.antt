@@ -42,7 +42,7 @@ use Rattle.raft_safety.specs.Scenarios.{
 }
 use Rattle.raft_safety.proofs.lemmas.PrefixLemmas.{prefix_itself, prefix_length}
 use Rattle.raft_safety.proofs.lemmas.JointLemmas.{coherent_intersect}
-use Rattle.raft_safety.proofs.lemmas.TraceLemmas.{committed_right, elected_right, trace_is_safe}
+use Rattle.raft_safety.proofs.lemmas.AppendedTraceLemmas.{committed_right, elected_right, trace_is_safe}
 
 exact : (configs : List (List ℕ)) → AreExact (starting_from configs)
 exact configs = record {

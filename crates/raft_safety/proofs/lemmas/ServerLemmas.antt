@@ -19,8 +19,8 @@ use Rattle.raft_safety.specs.Events.{
   log_after,
   term_after,
 }
-use Rattle.raft_safety.specs.Facts.{HasAcked, HasVoted, IsCommitted, IsElected}
-use Rattle.raft_safety.specs.Rules.{EventsFollowRules, FollowsRaft, MayGrantVote}
+use Rattle.raft_safety.specs.Facts.{Counting, HasAcked, HasVoted, IsCommittedBy, IsElectedBy}
+use Rattle.raft_safety.specs.Rules.{EventsFollowRulesBy, FollowsRaftBy, MayGrantVoteBy}
 use Rattle.raft_safety.proofs.lemmas.PrefixLemmas.{
   prefix_itself,
   prefix_trans,
@@ -62,15 +62,15 @@ module _ {T ID D : Type 0} where
   kept_now rank r p [] x = x
   kept_now rank r p (e ∷ ds) x = x.0
 
-module _ {T ID D : Type 0} (rank : T → ℕ) (quorum : List (Entry T D) → (ID → Bool) → Bool) (h : History T ID D)
-    (lawful : FollowsRaft rank quorum h) where
+module _ {T ID D : Type 0} (rank : T → ℕ) (counting : Counting T ID D) (h : History T ID D)
+    (lawful : FollowsRaftBy rank counting h) where
   -- the events of a server before a vote that it gave
   pub record BeforeVote (s : ID) (t : T) (c : ID) : Type 0 where
     pub ds : List (Event T ID D)
-    pub allowed : EventsFollowRules rank quorum h s ds
-    pub may : MayGrantVote rank quorum h s ds t c
+    pub allowed : EventsFollowRulesBy rank counting h s ds
+    pub may : MayGrantVoteBy rank counting h s ds t c
 
-  pub before_vote : (s : ID) (t : T) (c : ID) (ds : List (Event T ID D)) → EventsFollowRules rank quorum h s ds
+  pub before_vote : (s : ID) (t : T) (c : ID) (ds : List (Event T ID D)) → EventsFollowRulesBy rank counting h s ds
       → HasVoted t c ds → BeforeVote s t c
   before_vote s t c [] ok v = absurd v
   before_vote s t c (GrantVote u d ∷ ds) ok (inl is) =
@@ -82,7 +82,7 @@ module _ {T ID D : Type 0} (rank : T → ℕ) (quorum : List (Entry T D) → (ID
   before_vote s t c (Restart log ∷ ds) ok v = before_vote s t c ds ok.1 v
 
   -- no event is of a greater term than the one that was reached
-  pub voted_term : (s : ID) (t : T) (c : ID) (ds : List (Event T ID D)) → EventsFollowRules rank quorum h s ds
+  pub voted_term : (s : ID) (t : T) (c : ID) (ds : List (Event T ID D)) → EventsFollowRulesBy rank counting h s ds
       → HasVoted t c ds → rank t ≤ term_after rank ds
   voted_term s t c [] ok v = absurd v
   voted_term s t c (GrantVote u d ∷ ds) ok (inl is) = omega (arith, ap rank is.0)
@@ -95,7 +95,7 @@ module _ {T ID D : Type 0} (rank : T → ℕ) (quorum : List (Entry T D) → (ID
   voted_term s t c (Restart log ∷ ds) ok v = voted_term s t c ds ok.1 v
 
   pub acked_term : (s : ID) (t : T) (c : ID) (n : ℕ) (ds : List (Event T ID D))
-      → EventsFollowRules rank quorum h s ds → HasAcked t c n ds → rank t ≤ term_after rank ds
+      → EventsFollowRulesBy rank counting h s ds → HasAcked t c n ds → rank t ≤ term_after rank ds
   acked_term s t c n [] ok a = absurd a
   acked_term s t c n (GrantVote u d ∷ ds) ok a =
       omega (arith, acked_term s t c n ds ok.1 a, ok.0.term)
@@ -107,7 +107,7 @@ module _ {T ID D : Type 0} (rank : T → ℕ) (quorum : List (Entry T D) → (ID
   acked_term s t c n (Restart log ∷ ds) ok a = acked_term s t c n ds ok.1 a
 
   -- a server votes for one candidate in a term
-  pub voted_once : (s : ID) (t : T) (c d : ID) (ds : List (Event T ID D)) → EventsFollowRules rank quorum h s ds
+  pub voted_once : (s : ID) (t : T) (c d : ID) (ds : List (Event T ID D)) → EventsFollowRulesBy rank counting h s ds
       → HasVoted t c ds → HasVoted t d ds → c ≡ d
   voted_once s t c d [] ok v w = absurd v
   voted_once s t c d (GrantVote u e ∷ ds) ok (inl v) (inl w) = sym v.1 ∙ w.1
@@ -126,7 +126,7 @@ module _ {T ID D : Type 0} (rank : T → ℕ) (quorum : List (Entry T D) → (ID
     pub term : T
     pub leader : ID
     pub below : rank term < bound
-    pub elected : IsElected rank quorum h term leader
+    pub elected : IsElectedBy rank counting h term leader
     pub longer : length (h.candidate_log term leader) < length log
     pub start : IsPrefix log (h.leader_log term leader)
 
@@ -145,7 +145,7 @@ module _ {T ID D : Type 0} (rank : T → ℕ) (quorum : List (Entry T D) → (ID
         start = o.start;
       })
 
-  pub candidate_start : (t : T) (c : ID) → IsElected rank quorum h t c
+  pub candidate_start : (t : T) (c : ID) → IsElectedBy rank counting h t c
       → IsPrefix (h.candidate_log t c) (h.leader_log t c)
   candidate_start t c el =
       let x = lawful.leaders t c el in record { rest = x.added; is = x.is }
@@ -153,17 +153,17 @@ module _ {T ID D : Type 0} (rank : T → ℕ) (quorum : List (Entry T D) → (ID
   -- every log that a server has had below a term is from a leader of a lower term
   abbrev AllFrom : ℕ → Type 0
   AllFrom bound =
-      (s : ID) (ds : List (Event T ID D)) → EventsFollowRules rank quorum h s ds → term_after rank ds < bound
+      (s : ID) (ds : List (Event T ID D)) → EventsFollowRulesBy rank counting h s ds → term_after rank ds < bound
       → (l : List (Entry T D)) → HasHad l ds → IsFrom bound l
 
-  candidate_from_below : (t : T) (c : ID) → AllFrom (rank t) → IsElected rank quorum h t c
+  candidate_from_below : (t : T) (c : ID) → AllFrom (rank t) → IsElectedBy rank counting h t c
       → (l : List (Entry T D)) → IsPrefix l (h.candidate_log t c) → IsFrom (rank t) l
   candidate_from_below t c all el l st =
       let b = before_vote c t c (h.events c) (lawful.servers c) el.for_itself in
       all c b.ds b.allowed b.may.term l (had_now b.ds l (rw (b.may.own refl) at st))
 
   written_from : (bound : ℕ) (t : T) (c : ID) → ((b : ℕ) → b < bound → AllFrom b) → rank t < bound
-      → IsElected rank quorum h t c → (l : List (Entry T D)) → IsPrefix l (h.leader_log t c) → IsFrom bound l
+      → IsElectedBy rank counting h t c → (l : List (Entry T D)) → IsPrefix l (h.leader_log t c) → IsFrom bound l
   written_from bound t c ih lt el l st =
       ⊎_elim_at (cases_lt (length (h.candidate_log t c)) (length l))
     where
@@ -216,11 +216,11 @@ module _ {T ID D : Type 0} (rank : T → ℕ) (quorum : List (Entry T D) → (ID
   log_from bound = from_upto (suc bound) bound (omega arith)
 
   -- each prefix of the log of an elected candidate is from a leader of an earlier term
-  pub candidate_from : (t : T) (c : ID) → IsElected rank quorum h t c → (l : List (Entry T D))
+  pub candidate_from : (t : T) (c : ID) → IsElectedBy rank counting h t c → (l : List (Entry T D))
       → IsPrefix l (h.candidate_log t c) → IsFrom (rank t) l
   candidate_from t c el l st = candidate_from_below t c (log_from (rank t)) el l st
 
-  pub written_is_from : (t : T) (c : ID) → IsElected rank quorum h t c → (l : List (Entry T D))
+  pub written_is_from : (t : T) (c : ID) → IsElectedBy rank counting h t c → (l : List (Entry T D))
       → IsPrefix l (h.leader_log t c) → IsFrom (suc (rank t)) l
   written_is_from t c el l st =
       written_from (suc (rank t)) t c (λ b lt. log_from b) (omega arith) el l st
@@ -232,7 +232,7 @@ module _ {T ID D : Type 0} (rank : T → ℕ) (quorum : List (Entry T D) → (ID
       written_from bound o.term o.leader (λ b lt. log_from b) o.below o.elected p
       (prefix_trans st o.start)
 
-  pub last_written : (t : T) (c : ID) → IsElected rank quorum h t c → (l : List (Entry T D))
+  pub last_written : (t : T) (c : ID) → IsElectedBy rank counting h t c → (l : List (Entry T D))
       → IsPrefix l (h.leader_log t c) → length (h.candidate_log t c) < length l → last_term rank l ≡ rank t
   last_written t c el l st long =
       let x = lawful.leaders t c el in last_added rank t (h.candidate_log t c) x.added x.is x.own_term st long
@@ -272,9 +272,9 @@ module _ {T ID D : Type 0} (rank : T → ℕ) (quorum : List (Entry T D) → (ID
 
   -- what a server has acknowledged to a leader is durable, if all later leaders have it too
   pub kept : (s : ID) (t : T) (c : ID) (n bound : ℕ) (p : List (Entry T D))
-      → ((u : T) (d : ID) → IsElected rank quorum h u d → rank t ≤ rank u → rank u < bound
+      → ((u : T) (d : ID) → IsElectedBy rank counting h u d → rank t ≤ rank u → rank u < bound
       → IsPrefix p (h.leader_log u d)) → IsPrefix p (take n (h.leader_log t c))
-      → (ds : List (Event T ID D)) → EventsFollowRules rank quorum h s ds
+      → (ds : List (Event T ID D)) → EventsFollowRulesBy rank counting h s ds
       → term_after rank ds < bound → HasAcked t c n ds → IsDurable p ds
   kept s t c n bound p held st [] ok lt a = absurd a
   kept s t c n bound p held st (GrantVote u d ∷ ds) ok lt a =
@@ -306,13 +306,13 @@ module _ {T ID D : Type 0} (rank : T → ℕ) (quorum : List (Entry T D) → (ID
   -- the events before a vote, when the log began with these entries
   pub record HadAtVote (s : ID) (p : List (Entry T D)) (u : T) (d : ID) : Type 0 where
     pub ds : List (Event T ID D)
-    pub allowed : EventsFollowRules rank quorum h s ds
-    pub may : MayGrantVote rank quorum h s ds u d
+    pub allowed : EventsFollowRulesBy rank counting h s ds
+    pub may : MayGrantVoteBy rank counting h s ds u d
     pub had : IsPrefix p (log_after ds)
 
   -- a log that was kept since a term was kept at each vote in a later term
   kept_at_vote : (s : ID) (r : ℕ) (p : List (Entry T D)) (u : T) (d : ID) → r < rank u
-      → (ds : List (Event T ID D)) → EventsFollowRules rank quorum h s ds → HasVoted u d ds
+      → (ds : List (Event T ID D)) → EventsFollowRulesBy rank counting h s ds → HasVoted u d ds
       → HasKept rank r p ds → HadAtVote s p u d
   kept_at_vote s r p u d lt [] ok v x = absurd v
   kept_at_vote s r p u d lt (GrantVote w e ∷ ds) ok (inl is) (now, inl le) =
@@ -344,13 +344,13 @@ module _ {T ID D : Type 0} (rank : T → ℕ) (quorum : List (Entry T D) → (ID
   -- when it gave the vote
   had_at_vote : (s : ID) (t : T) (c : ID) (n : ℕ) (u : T) (d : ID) (p : List (Entry T D))
       → rank t < rank u
-      → ((w : T) (e : ID) → IsElected rank quorum h w e → rank t ≤ rank w → rank w < rank u
+      → ((w : T) (e : ID) → IsElectedBy rank counting h w e → rank t ≤ rank w → rank w < rank u
       → IsPrefix p (h.leader_log w e)) → IsPrefix p (take n (h.leader_log t c))
-      → (ds : List (Event T ID D)) → EventsFollowRules rank quorum h s ds → HasVoted u d ds
+      → (ds : List (Event T ID D)) → EventsFollowRulesBy rank counting h s ds → HasVoted u d ds
       → HasAcked t c n ds → HadAtVote s p u d
   had_at_vote s t c n u d p lt held st [] ok v a = absurd v
   had_at_vote s t c n u d p lt held st (GrantVote w e ∷ ds) ok (inl is) a =
-      let may : MayGrantVote rank quorum h s ds u d = rw (is.0, is.1) at ok.0 in
+      let may : MayGrantVoteBy rank counting h s ds u d = rw (is.0, is.1) at ok.0 in
       record {
         ds = ds;
         allowed = ok.1;
@@ -379,24 +379,24 @@ module _ {T ID D : Type 0} (rank : T → ℕ) (quorum : List (Entry T D) → (ID
   -- election safety and leader completeness for the terms below a bound
   abbrev pub OneBelow : ℕ → Type 0
   OneBelow bound =
-      (t : T) (c d : ID) → rank t < bound → IsElected rank quorum h t c → IsElected rank quorum h t d → c ≡ d
+      (t : T) (c d : ID) → rank t < bound → IsElectedBy rank counting h t c → IsElectedBy rank counting h t d → c ≡ d
 
   abbrev pub CompleteBelow : ℕ → Type 0
   CompleteBelow bound =
-      (t u : T) (c d : ID) (n m : ℕ) → rank u < bound → IsCommitted rank quorum h t c n m → rank t < rank u
-      → IsElected rank quorum h u d → IsPrefix (take n (h.leader_log t c)) (h.candidate_log u d)
+      (t u : T) (c d : ID) (n m : ℕ) → rank u < bound → IsCommittedBy rank counting h t c n m → rank t < rank u
+      → IsElectedBy rank counting h u d → IsPrefix (take n (h.leader_log t c)) (h.candidate_log u d)
 
-  pub committed_length : (t : T) (c : ID) (n m : ℕ) → IsCommitted rank quorum h t c n m
+  pub committed_length : (t : T) (c : ID) (n m : ℕ) → IsCommittedBy rank counting h t c n m
       → length (take n (h.leader_log t c)) ≡ n
   committed_length t c n m done =
-      length-take-le n (h.leader_log t c) (omega (arith, done.within, done.written))
+      length-take-le n (h.leader_log t c) done.written
 
   -- a log of a leader of a later term is at or past what was committed
   abbrev pub IsAhead : T → ℕ → List (Entry T D) → Type 0
   IsAhead t n l = (rank t < last_term rank l) ⊎ ((rank t ≡ last_term rank l) × (n ≤ length l))
 
   pub ahead : (t u : T) (c d : ID) (n m : ℕ) → OneBelow (rank u) → CompleteBelow (rank u)
-      → IsCommitted rank quorum h t c n m → rank t < rank u → IsElected rank quorum h u d
+      → IsCommittedBy rank counting h t c n m → rank t < rank u → IsElectedBy rank counting h u d
       → IsAhead t n (h.candidate_log u d) → IsPrefix (take n (h.leader_log t c)) (h.candidate_log u d)
   ahead t u c d n m one complete done lt el past =
       go (candidate_from u d el l (prefix_itself l)) past
@@ -417,7 +417,7 @@ module _ {T ID D : Type 0} (rank : T → ℕ) (quorum : List (Entry T D) → (ID
           let e : o.term ≡ t =
           lawful.ranks o.term t o.leader c o.elected done.elected
           (sym (last_of (rank u) l o) ∙ sym same.0) in
-          let el' : IsElected rank quorum h t o.leader = rw e at o.elected in
+          let el' : IsElectedBy rank counting h t o.leader = rw e at o.elected in
           let f : o.leader ≡ c = one t o.leader c lt el' done.elected in
           let st : IsPrefix l (h.leader_log t c) = rw (e, f) at o.start in
           prefix_within (prefix_take n (h.leader_log t c)) st
@@ -430,7 +430,7 @@ module _ {T ID D : Type 0} (rank : T → ℕ) (quorum : List (Entry T D) → (ID
   -- a server that has acknowledged a committed log, and has voted in a later term, votes only for a
   -- candidate that has it
   pub by_voter : (t u : T) (c d v : ID) (n m : ℕ) → OneBelow (rank u) → CompleteBelow (rank u)
-      → IsCommitted rank quorum h t c n m → rank t < rank u → IsElected rank quorum h u d
+      → IsCommittedBy rank counting h t c n m → rank t < rank u → IsElectedBy rank counting h u d
       → HasVoted u d (h.events v) → HasAcked t c n (h.events v)
       → IsPrefix (take n (h.leader_log t c)) (h.candidate_log u d)
   by_voter t u c d v n m one complete done lt el voted accepted =
@@ -439,7 +439,7 @@ module _ {T ID D : Type 0} (rank : T → ℕ) (quorum : List (Entry T D) → (ID
       p : List (Entry T D)
       p = take n (h.leader_log t c)
 
-      held : (w : T) (e : ID) → IsElected rank quorum h w e → rank t ≤ rank w → rank w < rank u → IsPrefix p (h.leader_log w e)
+      held : (w : T) (e : ID) → IsElectedBy rank counting h w e → rank t ≤ rank w → rank w < rank u → IsPrefix p (h.leader_log w e)
       held w e el' le less = at_term (cases_lt (rank t) (rank w))
         where
           at_term : ((rank t < rank w) ⊎ (rank w ≤ rank t)) → IsPrefix p (h.leader_log w e)
@@ -448,7 +448,7 @@ module _ {T ID D : Type 0} (rank : T → ℕ) (quorum : List (Entry T D) → (ID
           at_term (inr same) =
               let f : t ≡ w =
               lawful.ranks t w c e done.elected el' (omega arith) in
-              let first : IsElected rank quorum h w c = rw f at done.elected in
+              let first : IsElectedBy rank counting h w c = rw f at done.elected in
               let g : c ≡ e = one w c e less first el' in
               of_same p t w c e f g (prefix_take n (h.leader_log t c))
 

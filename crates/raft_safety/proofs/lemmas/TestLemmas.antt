@@ -31,6 +31,8 @@ use Rattle.raft_safety.specs.Log.{Entry, IsPrefix, IsUpToDate, last_term}
 use Rattle.raft_safety.specs.Events.{Ack, Append, Event, GrantVote, LateVote, HasKept, IsDurable, Restart, log_after, term_after}
 use Rattle.raft_safety.specs.Facts.{HasAcked, HasVoted}
 use Rattle.raft_safety.specs.Configs.{HoldNoConfig}
+use Rattle.raft_safety.specs.AppliedConfigs.{HoldAtMostOneConfig}
+use Rattle.raft_safety.specs.AppliedTrace.{hold_at_most_one}
 use Rattle.raft_safety.specs.Trace.{
   AreExact,
   Tests,
@@ -134,6 +136,22 @@ module _ {T ID D M : Type 0} (k : Tests T ID D M) (exact : AreExact k) where
         (first_so (is_none (k.config_of x.content)) (hold_no_config k es) e),
     no_config_right es (second_so (is_none (k.config_of x.content)) (hold_no_config k es) e),
   )
+
+  pub at_most_one_right : (es : List (Entry T D)) → hold_at_most_one k es ≡ true
+      → HoldAtMostOneConfig k.config_of es
+  at_most_one_right [] e = tt
+  at_most_one_right (x ∷ es) e =
+      go (or_cases (hold_no_config k es) (is_none (k.config_of x.content) && hold_at_most_one k es) e)
+      (at_most_one_right es)
+    where
+      go : ((hold_no_config k es ≡ true) ⊎ ((is_none (k.config_of x.content) && hold_at_most_one k es) ≡ true))
+          → (hold_at_most_one k es ≡ true → HoldAtMostOneConfig k.config_of es) → HoldAtMostOneConfig k.config_of (x ∷ es)
+      go (inl f) rec = inl (no_config_right es f)
+      go (inr f) rec =
+          inr (
+            none_of (k.config_of x.content) (first_so (is_none (k.config_of x.content)) (hold_at_most_one k es) f),
+            rec (second_so (is_none (k.config_of x.content)) (hold_at_most_one k es) f),
+          )
 
   -- events of one server
   pub voted_right : (t : T) (c : ID) (es : List (Event T ID D)) → has_voted k t c es ≡ true

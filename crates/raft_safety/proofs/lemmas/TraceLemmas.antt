@@ -1,4 +1,4 @@
--- A trace that passes the test is an execution.
+-- A trace that passes the test is an execution, however a cluster uses configs.
 use Rattle.std.specs.Prelude.{
   ◌≡◌,
   ◌⊎◌,
@@ -15,6 +15,7 @@ use Rattle.std.specs.Prelude.{
   if◌then◌else◌,
   Option,
   Some,
+  is_none,
   List,
   [],
   ◌∷◌,
@@ -31,12 +32,12 @@ use Rattle.std.proofs.lemmas.List.{length-append, length-take-le}
 use Rattle.std.proofs.lemmas.List.Prefix.{front_rest}
 use Rattle.raft_safety.specs.Log.{Entry, IsPrefix, last_term}
 use Rattle.raft_safety.specs.Events.{Ack, Append, Event, GrantVote, LateVote, History, Restart, log_after}
-use Rattle.raft_safety.specs.Facts.{HasVoted, IsCommitted, IsElected}
-use Rattle.raft_safety.specs.Rules.{MayAck, MayAppend, MayGrantVote, MayRestart, MayVoteLate}
-use Rattle.raft_safety.specs.Apply.{MayApply}
-use Rattle.raft_safety.specs.Configs.{HoldNoConfig, MayProposeConfig, QuorumsIntersect, effective_config, is_quorum}
+use Rattle.raft_safety.specs.Facts.{Counting, HasVoted, IsCommittedBy, IsElectedBy}
+use Rattle.raft_safety.specs.Rules.{MayAckBy, MayAppendBy, MayGrantVoteBy, MayRestart, MayVoteLate}
+use Rattle.raft_safety.specs.Apply.{MayApplyBy}
+use Rattle.raft_safety.specs.Configs.{QuorumsIntersect}
 use Rattle.raft_safety.specs.Ranks.{IsAmong}
-use Rattle.raft_safety.specs.Execution.{IsExecution, LeaderAppends, MayDo, Next, ServerStep, StartsCampaign}
+use Rattle.raft_safety.specs.Execution.{ConfigRules, IsExecutionBy, LeaderAppendsBy, MayDoBy, NextBy, ServerStepBy, StartsCampaignBy}
 use Rattle.raft_safety.specs.Trace.{
   Acked,
   Appended,
@@ -45,29 +46,26 @@ use Rattle.raft_safety.specs.Trace.{
   Campaigned,
   Committed,
   Granted,
-  IsSafeTrace,
+  ConfigTests,
+  IsSafeTraceBy,
   Restarted,
   TermsHaveRanks,
   Tests,
   TraceEvent,
   WasApplied,
   Wrote,
-  are_allowed,
+  are_allowed_by,
   campaign_terms,
   candidate_log_in,
   common_prefix,
   durable,
   earlier,
   events_in,
-  has_acked,
   has_campaigned,
   has_kept,
   has_voted,
   history,
-  hold_no_config,
-  is_allowed,
-  is_config_committed,
-  is_elected,
+  is_allowed_by,
   is_known_committed,
   is_prefix,
   is_up_to_date,
@@ -86,9 +84,9 @@ use Rattle.raft_safety.proofs.lemmas.PrefixLemmas.{
   prefix_same,
   prefix_within,
 }
-use Rattle.raft_safety.proofs.lemmas.RuleLemmas.{allowed_by_rules, is_committed, may_propose, passes}
+use Rattle.raft_safety.proofs.lemmas.RuleLemmas.{allowed_by_rules, passes}
 use Rattle.raft_safety.proofs.lemmas.ServerLemmas.{durable_now, had_now}
-use Rattle.raft_safety.proofs.lemmas.ExecutionLemmas.{all_times_agree, execution_is_safe, step_keeps_facts}
+use Rattle.raft_safety.proofs.lemmas.StepLemmas.{AreSteady, all_times_agree, execution_is_safe, step_keeps_facts}
 use Rattle.raft_safety.proofs.lemmas.TestLemmas.{
   or_cases,
   not_so,
@@ -97,17 +95,12 @@ use Rattle.raft_safety.proofs.lemmas.TestLemmas.{
   prefix_right,
   common_right,
   up_to_date_right,
-  no_config_right,
   voted_right,
-  acked_right,
   kept_right,
   durable_within,
 }
 
-module _ {T ID D M : Type 0} (k : Tests T ID D M) (exact : AreExact k) where
-  abbrev Q : List (Entry T D) → (ID → Bool) → Bool
-  Q = is_quorum k.rank k.config_of k.initial k.quorum_of
-
+module _ {T ID D M : Type 0} (k : Tests T ID D M) (exact : AreExact k) (conf : ConfigTests T ID D M) where
   abbrev Events : Type 0
   Events = List (TraceEvent T ID D)
 
@@ -149,15 +142,15 @@ module _ {T ID D M : Type 0} (k : Tests T ID D M) (exact : AreExact k) where
   skip_restart true log es t c x = x
   skip_restart false log es t c x = x
 
-  allowed_last : (e : TraceEvent T ID D) (es : Events) → are_allowed k (e ∷ es) ≡ true
-      → passes k e es ≡ true
-  allowed_last e es ok = sym (allowed_by_rules k e es) ∙ first_so (is_allowed k e es) (are_allowed k es) ok
+  pub allowed_last : (e : TraceEvent T ID D) (es : Events) → are_allowed_by k conf (e ∷ es) ≡ true
+      → passes k conf e es ≡ true
+  allowed_last e es ok = sym (allowed_by_rules k conf e es) ∙ first_so (is_allowed_by k conf e es) (are_allowed_by k conf es) ok
 
-  allowed_before : (e : TraceEvent T ID D) (es : Events) → are_allowed k (e ∷ es) ≡ true
-      → are_allowed k es ≡ true
-  allowed_before e es ok = second_so (is_allowed k e es) (are_allowed k es) ok
+  pub allowed_before : (e : TraceEvent T ID D) (es : Events) → are_allowed_by k conf (e ∷ es) ≡ true
+      → are_allowed_by k conf es ≡ true
+  allowed_before e es ok = second_so (is_allowed_by k conf e es) (are_allowed_by k conf es) ok
 
-  has_campaign : (es : Events) (s : ID) (t : T) (c : ID) → are_allowed k es ≡ true
+  pub has_campaign : (es : Events) (s : ID) (t : T) (c : ID) → are_allowed_by k conf es ≡ true
       → HasVoted t c (events_in k es s) → has_campaigned k t c es ≡ true
   has_campaign [] s t c ok x = absurd x
   has_campaign (Campaigned r u ∷ es) s t c ok x =
@@ -196,54 +189,57 @@ module _ {T ID D M : Type 0} (k : Tests T ID D M) (exact : AreExact k) where
       go (inr x) rec = inr (rec x)
   term_among (x ∷ es) t c e = term_among es t c e
 
-  -- elected and committed
-  pub elected_right : (es : Events) (t : T) (c : ID) → is_elected k es t c ≡ true
-      → IsElected k.rank Q (history k es) t c
-  elected_right es t c e =
-      let a : Bool = has_voted k t c (events_in k es c) in
-      let b : Bool = Q (candidate_log_in k es t c) (λ v. has_voted k t c (events_in k es v)) in
-      record {
-        voters = λ v. has_voted k t c (events_in k es v);
-        is_quorum = second_so a b e;
-        have_voted = λ v x. voted_right k exact t c (events_in k es v) x;
-        for_itself = voted_right k exact t c (events_in k es c) (first_so a b e);
-      }
+  pub initial_intersects : (es : Events) → are_allowed_by k conf es ≡ true
+      → QuorumsIntersect k.quorum_of k.initial k.initial
+  initial_intersects [] ok = exact.intersect k.initial k.initial ok
+  initial_intersects (e ∷ es) ok = initial_intersects es (allowed_before e es ok)
 
-  pub committed_right : (es : Events) (t : T) (c : ID) (n m : ℕ) → is_committed k es t c n m ≡ true
-      → IsCommitted k.rank Q (history k es) t c n m
-  committed_right es t c n m e =
-      let a : Bool = is_elected k es t c in
-      let b : Bool = nat_lt (length (candidate_log_in k es t c)) n in
-      let f : Bool = nat_le n m in
-      let d : Bool = nat_le m (length (leader_log_in k es t c)) in
-      let q : Bool =
-      Q (take m (leader_log_in k es t c)) (λ v. has_acked k t c n (events_in k es v)) in
-      let e1 = second_so a (b && (f && (d && q))) e in
-      let e2 = second_so b (f && (d && q)) e1 in
-      let e3 = second_so f (d && q) e2 in
-      record {
-        elected = elected_right es t c (first_so a (b && (f && (d && q))) e);
-        own_term = ltb-true (length (candidate_log_in k es t c)) n (first_so b (f && (d && q)) e1);
-        within = leb-true n m (first_so f (d && q) e2);
-        written = leb-true m (length (leader_log_in k es t c)) (first_so d q e3);
-        having = λ v. has_acked k t c n (events_in k es v);
-        is_quorum = second_so d q e3;
-        have_acked = λ v x. acked_right k exact t c n (events_in k es v) x;
-      }
+  pub no_votes : (es : Events) (c : ID) (t : T) → are_allowed_by k conf es ≡ true
+      → passes k conf (Campaigned c t) es ≡ true → (s : ID) → HasVoted t c (events_in k es s) → ⊥
+  no_votes es c t before ok s x =
+      not_so (has_campaigned k t c es)
+      (second_so (nat_lt (term_in k es c) (k.rank t)) (not (has_campaigned k t c es)) ok)
+      (has_campaign es s t c before x)
+
+-- what the tests that depend on the use of configs have to show
+pub record AreRight {T ID D M : Type 0} (k : Tests T ID D M) (conf : ConfigTests T ID D M)
+    (rules : ConfigRules T ID D M) (Step : History T ID D → History T ID D → Type 0)
+    (Kept : History T ID D → Type 0) : Type 0 where
+  pub config_of : (d : D) → rules.config_of d ≡ k.config_of d
+  pub steady : QuorumsIntersect k.quorum_of k.initial k.initial → AreSteady k.rank rules Step Kept
+  pub elected : (es : List (TraceEvent T ID D)) (t : T) (c : ID) → conf.is_elected es t c ≡ true
+      → IsElectedBy k.rank rules.counting (history k es) t c
+  pub committed : (es : List (TraceEvent T ID D)) (c : ID) (t : T) (n m : ℕ)
+      → are_allowed_by k conf (Committed c t n m ∷ es) ≡ true
+      → IsExecutionBy Step (history k (Committed c t n m ∷ es)) (earlier k (Committed c t n m ∷ es))
+      → IsCommittedBy k.rank rules.counting (history k (Committed c t n m ∷ es)) t c n m
+  pub may_append : (es : List (TraceEvent T ID D)) → are_allowed_by k conf es ≡ true
+      → IsExecutionBy Step (history k es) (earlier k es) → (t : T) (c : ID) (m : M)
+      → is_none (conf.config_rule es t c (Some m)) ≡ true
+      → rules.may_append (history k es) t c (leader_log_in k es t c) m
+  pub step : (e : TraceEvent T ID D) (es : List (TraceEvent T ID D))
+      → are_allowed_by k conf (e ∷ es) ≡ true → IsExecutionBy Step (history k es) (earlier k es)
+      → NextBy k.rank rules (history k es) (history k (e ∷ es)) → Step (history k es) (history k (e ∷ es))
+
+module _ {T ID D M : Type 0} (k : Tests T ID D M) (exact : AreExact k) (conf : ConfigTests T ID D M)
+    (rules : ConfigRules T ID D M) (Step : History T ID D → History T ID D → Type 0)
+    (Kept : History T ID D → Type 0) (right : AreRight k conf rules Step Kept) where
+  abbrev Q : Counting T ID D
+  Q = rules.counting
 
   -- terms of elected leaders that have one rank are equal
-  ranks_right : (es : Events) → are_allowed k es ≡ true → TermsHaveRanks k es → (t u : T) (c d : ID)
-      → IsElected k.rank Q (history k es) t c → IsElected k.rank Q (history k es) u d
+  ranks_right : (es : List (TraceEvent T ID D)) → are_allowed_by k conf es ≡ true → TermsHaveRanks k es → (t u : T) (c d : ID)
+      → IsElectedBy k.rank Q (history k es) t c → IsElectedBy k.rank Q (history k es) u d
       → k.rank t ≡ k.rank u → t ≡ u
   ranks_right es ok ranks t u c d x y e =
-      ranks t u (term_among es t c (has_campaign es c t c ok x.for_itself))
-      (term_among es u d (has_campaign es d u d ok y.for_itself)) e
+      ranks t u (term_among k exact conf es t c (has_campaign k exact conf es c t c ok x.for_itself))
+      (term_among k exact conf es u d (has_campaign k exact conf es d u d ok y.for_itself)) e
 
   -- steps
   does : (old new : History T ID D) (f : ID → Event T ID D) (r : ID)
-      → MayDo k.rank k.config_of k.initial k.quorum_of old new r (f r) → (s : ID) (b : Bool)
+      → MayDoBy k.rank rules old new r (f r) → (s : ID) (b : Bool)
       → k.same_id r s ≡ b → new.events s ≡ (if b then f s ∷ old.events s else old.events s)
-      → (new.events s ≡ old.events s) ⊎ ServerStep k.rank k.config_of k.initial k.quorum_of old new s
+      → (new.events s ≡ old.events s) ⊎ ServerStepBy k.rank rules old new s
   does old new f r may s true e is =
       inr (record { event = f s; is = is; may = rw (exact.same_id r s e) at may })
   does old new f r may s false e is = inl is
@@ -273,7 +269,7 @@ module _ {T ID D M : Type 0} (k : Tests T ID D M) (exact : AreExact k) where
 
   nothing : (old new : History T ID D) (t : T) (c : ID)
       → new.candidate_log t c ≡ old.candidate_log t c → new.leader_log t c ≡ old.leader_log t c
-      → LeaderAppends k.rank k.config_of k.initial k.quorum_of old new t c
+      → LeaderAppendsBy k.rank rules old new t c
   nothing old new t c o w = record {
     candidate_log = o;
     added = [];
@@ -287,8 +283,8 @@ module _ {T ID D M : Type 0} (k : Tests T ID D M) (exact : AreExact k) where
       → ((s : ID) → HasVoted t c (old.events s) → ⊥) → (b : Bool) → same_leader k t c u d ≡ b
       → new.candidate_log u d ≡ (if b then own else old.candidate_log u d)
       → new.leader_log u d ≡ (if b then own else old.leader_log u d)
-      → StartsCampaign k.rank k.config_of k.initial k.quorum_of old new u d
-      ⊎ LeaderAppends k.rank k.config_of k.initial k.quorum_of old new u d
+      → StartsCampaignBy k.rank rules old new u d
+      ⊎ LeaderAppendsBy k.rank rules old new u d
   campaigns old new t u c d own none true e o w =
       let x = leader_right k exact t u c d e in
       inl (record { no_votes = rw (x.0, x.1) at none; nothing_written = w ∙ sym o })
@@ -296,16 +292,16 @@ module _ {T ID D M : Type 0} (k : Tests T ID D M) (exact : AreExact k) where
 
   writes : (old new : History T ID D) (t u : T) (c d : ID) (x : Entry T D) → x.term ≡ t
       → ((m : M) → k.config_of x.content ≡ Some m
-      → MayProposeConfig k.rank k.config_of k.initial k.quorum_of old t c (old.leader_log t c) m)
+      → rules.may_append old t c (old.leader_log t c) m)
       → (b : Bool) → same_leader k t c u d ≡ b → new.candidate_log u d ≡ old.candidate_log u d
       → new.leader_log u d ≡ (if b then old.leader_log u d ++ x ∷ [] else old.leader_log u d)
-      → StartsCampaign k.rank k.config_of k.initial k.quorum_of old new u d
-      ⊎ LeaderAppends k.rank k.config_of k.initial k.quorum_of old new u d
+      → StartsCampaignBy k.rank rules old new u d
+      ⊎ LeaderAppendsBy k.rank rules old new u d
   writes old new t u c d x term may false e o w = inr (nothing old new u d o w)
   writes old new t u c d x term may true e o w =
       let z = leader_right k exact t u c d e in
       let may' : (m : M) → k.config_of x.content ≡ Some m
-      → MayProposeConfig k.rank k.config_of k.initial k.quorum_of old u d (old.leader_log u d) m =
+      → rules.may_append old u d (old.leader_log u d) m =
       rw (z.0, z.1) at may in
       inr (record {
         candidate_log = o;
@@ -314,12 +310,14 @@ module _ {T ID D M : Type 0} (k : Tests T ID D M) (exact : AreExact k) where
         own_term = (term ∙ z.0, tt);
         configs = λ log y m st le is.
             let a = added (old.leader_log u d) log x y (rw w at st) le in
-            rw (a.logs) (may' m (ap (λ (f : Entry T D). k.config_of f.content) (sym a.entries) ∙ is));
+            rw (a.logs)
+            (may' m
+            (ap (λ (f : Entry T D). k.config_of f.content) (sym a.entries) ∙ sym (right.config_of y.content) ∙ is));
       })
 
   -- what each event needs
-  may_campaign : (es : Events) (c : ID) (t : T) → passes k (Campaigned c t) es ≡ true
-      → MayGrantVote k.rank Q (history k (Campaigned c t ∷ es)) c (events_in k es c) t c
+  may_campaign : (es : List (TraceEvent T ID D)) (c : ID) (t : T) → passes k conf (Campaigned c t) es ≡ true
+      → MayGrantVoteBy k.rank Q (history k (Campaigned c t ∷ es)) c (events_in k es c) t c
   may_campaign es c t ok =
       let own : (if same_leader k t c t c then log_in k es c else candidate_log_in k es t c)
       ≡ log_in k es c =
@@ -331,16 +329,9 @@ module _ {T ID D M : Type 0} (k : Tests T ID D M) (exact : AreExact k) where
         own = λ x. own;
       }
 
-  no_votes : (es : Events) (c : ID) (t : T) → are_allowed k es ≡ true
-      → passes k (Campaigned c t) es ≡ true → (s : ID) → HasVoted t c (events_in k es s) → ⊥
-  no_votes es c t before ok s x =
-      not_so (has_campaigned k t c es)
-      (second_so (nat_lt (term_in k es c) (k.rank t)) (not (has_campaigned k t c es)) ok)
-      (has_campaign es s t c before x)
-
-  may_grant : (es : Events) (s : ID) (t : T) (c : ID) → passes k (Granted s t c) es ≡ true
+  may_grant : (es : List (TraceEvent T ID D)) (s : ID) (t : T) (c : ID) → passes k conf (Granted s t c) es ≡ true
       → nat_lt (term_in k es s) (k.rank t) ≡ true
-      → MayGrantVote k.rank Q (history k (Granted s t c ∷ es)) s (events_in k es s) t c
+      → MayGrantVoteBy k.rank Q (history k (Granted s t c ∷ es)) s (events_in k es s) t c
   may_grant es s t c ok above =
       let a : Bool = nat_le (term_in k es s) (k.rank t) && nat_lt (voted_in k es s) (k.rank t) in
       let b : Bool = has_campaigned k t c es in
@@ -355,7 +346,7 @@ module _ {T ID D M : Type 0} (k : Tests T ID D M) (exact : AreExact k) where
         own = λ x. absurd (not_so (k.same_id c s) (first_so d e ok2) (rw x (exact.id_itself s)));
       }
 
-  may_vote_late : (es : Events) (s : ID) (t : T) (c : ID) → passes k (Granted s t c) es ≡ true
+  may_vote_late : (es : List (TraceEvent T ID D)) (s : ID) (t : T) (c : ID) → passes k conf (Granted s t c) es ≡ true
       → nat_lt (term_in k es s) (k.rank t) ≡ false → MayVoteLate k.rank (events_in k es s) t
   may_vote_late es s t c ok reached =
       let a : Bool = nat_le (term_in k es s) (k.rank t) in
@@ -371,9 +362,9 @@ module _ {T ID D M : Type 0} (k : Tests T ID D M) (exact : AreExact k) where
         voted = ltb-true (voted_in k es s) (k.rank t) (second_so a v first);
       }
 
-  may_vote : (es : Events) (s : ID) (t : T) (c : ID) → passes k (Granted s t c) es ≡ true
+  may_vote : (es : List (TraceEvent T ID D)) (s : ID) (t : T) (c : ID) → passes k conf (Granted s t c) es ≡ true
       → (b : Bool) → nat_lt (term_in k es s) (k.rank t) ≡ b
-      → MayDo k.rank k.config_of k.initial k.quorum_of (history k es)
+      → MayDoBy k.rank rules (history k es)
       (history k (Granted s t c ∷ es)) s (if b then GrantVote t c else LateVote t c)
   may_vote es s t c ok true above = may_grant es s t c ok above
   may_vote es s t c ok false reached = may_vote_late es s t c ok reached
@@ -386,15 +377,15 @@ module _ {T ID D M : Type 0} (k : Tests T ID D M) (exact : AreExact k) where
       go (inl x) = inl (prefix_right k exact a b x)
       go (inr x) = inr (prefix_right k exact a c x)
 
-  may_append : (es : Events) (s : ID) (t : T) (c : ID) (n : ℕ) (sent : List (Entry T D))
-      → passes k (Appended s t c n sent) es ≡ true
-      → MayAppend k.rank Q (history k es) (events_in k es s) t c (take n (log_in k es s) ++ sent)
+  may_append : (es : List (TraceEvent T ID D)) (s : ID) (t : T) (c : ID) (n : ℕ) (sent : List (Entry T D))
+      → passes k conf (Appended s t c n sent) es ≡ true
+      → MayAppendBy k.rank Q (history k es) (events_in k es s) t c (take n (log_in k es s) ++ sent)
   may_append es s t c n sent ok =
       let old : List (Entry T D) = log_in k es s in
       let lead : List (Entry T D) = leader_log_in k es t c in
       let log : List (Entry T D) = take n (log_in k es s) ++ sent in
       let a : Bool = nat_le (term_in k es s) (k.rank t) in
-      let b : Bool = is_elected k es t c in
+      let b : Bool = conf.is_elected es t c in
       let d : Bool = nat_le n (length old) in
       let f : Bool = is_prefix k (common_prefix k old lead) log in
       let g : Bool = is_prefix k log old || is_prefix k log lead in
@@ -403,32 +394,32 @@ module _ {T ID D M : Type 0} (k : Tests T ID D M) (exact : AreExact k) where
       let ok3 = second_so d (f && g) ok2 in
       record {
         term = leb-true (term_in k es s) (k.rank t) (first_so a (b && (d && (f && g))) ok);
-        elected = elected_right es t c (first_so b (d && (f && g)) ok1);
+        elected = right.elected es t c (first_so b (d && (f && g)) ok1);
         keeps = λ p x y.
             prefix_trans (common_right k exact x y)
             (prefix_right k exact (common_prefix k old lead) log (first_so f g ok3));
         of_these = either_prefix log old lead (second_so f g ok3);
       }
 
-  may_ack : (es : Events) (s : ID) (t : T) (c : ID) (n : ℕ) → passes k (Acked s t c n) es ≡ true
-      → MayAck k.rank Q (history k es) (events_in k es s) t c n
+  may_ack : (es : List (TraceEvent T ID D)) (s : ID) (t : T) (c : ID) (n : ℕ) → passes k conf (Acked s t c n) es ≡ true
+      → MayAckBy k.rank Q (history k es) (events_in k es s) t c n
   may_ack es s t c n ok =
       let a : Bool = nat_le (k.rank t) (term_in k es s) in
-      let b : Bool = is_elected k es t c in
+      let b : Bool = conf.is_elected es t c in
       let d : Bool = nat_le n (length (leader_log_in k es t c)) in
       let f : Bool = has_kept k (k.rank t) (take n (leader_log_in k es t c)) (events_in k es s) in
       let ok1 = second_so a (b && (d && f)) ok in
       let ok2 = second_so b (d && f) ok1 in
       record {
         reached = leb-true (k.rank t) (term_in k es s) (first_so a (b && (d && f)) ok);
-        elected = elected_right es t c (first_so b (d && f) ok1);
+        elected = right.elected es t c (first_so b (d && f) ok1);
         written = leb-true n (length (leader_log_in k es t c)) (first_so d f ok2);
         has_kept =
             kept_right k exact (k.rank t) (take n (leader_log_in k es t c)) (events_in k es s)
             (second_so d f ok2);
       }
 
-  may_restart : (es : Events) (s : ID) (n : ℕ) → passes k (Restarted s n) es ≡ true
+  may_restart : (es : List (TraceEvent T ID D)) (s : ID) (n : ℕ) → passes k conf (Restarted s n) es ≡ true
       → MayRestart (events_in k es s) (take n (log_in k es s))
   may_restart es s n ok =
       let a : Bool = nat_le (durable k (events_in k es s)) n in
@@ -448,202 +439,121 @@ module _ {T ID D M : Type 0} (k : Tests T ID D M) (exact : AreExact k) where
             ));
       }
 
-  may_write : (es : Events) (c : ID) (t : T) (x : Entry T D) → passes k (Wrote c t x) es ≡ true
-      → (x.term ≡ t) × (may_propose k es t c (k.config_of x.content) ≡ true)
+  may_write : (es : List (TraceEvent T ID D)) (c : ID) (t : T) (x : Entry T D) → passes k conf (Wrote c t x) es ≡ true
+      → (x.term ≡ t) × (is_none (conf.config_rule es t c (k.config_of x.content)) ≡ true)
   may_write es c t x ok =
-      let a : Bool = is_elected k es t c in
+      let a : Bool = conf.is_elected es t c in
       let b : Bool = k.same_term x.term t in
-      let f : Bool = may_propose k es t c (k.config_of x.content) in
+      let f : Bool = is_none (conf.config_rule es t c (k.config_of x.content)) in
       let ok1 = second_so a (b && f) ok in
       (exact.same_term x.term t (first_so b f ok1), second_so b f ok1)
 
   -- the tests and ranks of the earlier events
-  term_more : (e : TraceEvent T ID D) (es : Events) (t : T) → IsAmong t (campaign_terms es)
+  term_more : (e : TraceEvent T ID D) (es : List (TraceEvent T ID D)) (t : T) → IsAmong t (campaign_terms es)
       → IsAmong t (campaign_terms (e ∷ es))
   term_more (Campaigned r u) es t x = inr x
   term_more e es t x = x
 
-  ranks_before : (e : TraceEvent T ID D) (es : Events) → TermsHaveRanks k (e ∷ es)
+  ranks_before : (e : TraceEvent T ID D) (es : List (TraceEvent T ID D)) → TermsHaveRanks k (e ∷ es)
       → TermsHaveRanks k es
   ranks_before e es ranks t u x y same =
       ranks t u (term_more e es t x) (term_more e es u y) same
 
-  initial_intersects : (es : Events) → are_allowed k es ≡ true
-      → QuorumsIntersect k.quorum_of k.initial k.initial
-  initial_intersects [] ok = exact.intersect k.initial k.initial ok
-  initial_intersects (e ∷ es) ok = initial_intersects es (allowed_before e es ok)
-
   -- what was committed before an event is so after it
-  abbrev IsRun : Events → Type 0
-  IsRun es = IsExecution k.rank k.config_of k.initial k.quorum_of (history k es) (earlier k es)
+  abbrev IsRun : List (TraceEvent T ID D) → Type 0
+  IsRun es = IsExecutionBy Step (history k es) (earlier k es)
 
-  -- a leader's commit after which no entry of this log holds a config
-  record ConfigCommitted (es : Events) (t : T) (c : ID) (log : List (Entry T D)) : Type 0 where
-    to : ℕ
-    counted_at : ℕ
-    committed : IsCommitted k.rank Q (history k es) t c to counted_at
-    none_since : HoldNoConfig k.config_of (drop to log)
-
-  lift_config : (e : TraceEvent T ID D) (es : Events) → are_allowed k (e ∷ es) ≡ true
-      → IsRun (e ∷ es) → (t : T) (c : ID) (log : List (Entry T D)) → ConfigCommitted es t c log
-      → ConfigCommitted (e ∷ es) t c log
-  lift_config e es ok run t c log x =
-      let facts =
-      step_keeps_facts k.rank k.config_of k.initial k.quorum_of (initial_intersects (e ∷ es) ok)
-      (history k (e ∷ es)) (history k es) (earlier k es) run in
-      record {
-        to = x.to;
-        counted_at = x.counted_at;
-        committed = (facts.committed t c x.to x.counted_at x.committed).0;
-        none_since = x.none_since;
-      }
-
-  config_committed : (es : Events) → are_allowed k es ≡ true → IsRun es → (t : T) (c : ID)
-      (log : List (Entry T D)) → is_config_committed k t c log es ≡ true
-      → ConfigCommitted es t c log
-  config_committed [] ok run t c log e = absurd (cc)
-  config_committed (Committed d u n m ∷ es) ok run t c log e =
-      lift_config (Committed d u n m) es ok run t c log
-      (go (or_cases (same_leader k u d t c && hold_no_config k (drop n log))
-      (is_config_committed k t c log es) e)
-      (config_committed es (allowed_before (Committed d u n m) es ok) run.1 t c log))
-    where
-      go : (((same_leader k u d t c && hold_no_config k (drop n log)) ≡ true)
-          ⊎ (is_config_committed k t c log es ≡ true))
-          → (is_config_committed k t c log es ≡ true → ConfigCommitted es t c log)
-          → ConfigCommitted es t c log
-      go (inl x) rec =
-          let a : Bool = same_leader k u d t c in
-          let b : Bool = hold_no_config k (drop n log) in
-          let same = leader_right k exact u t d c (first_so a b x) in
-          let done : IsCommitted k.rank Q (history k es) u d n m =
-          committed_right es u d n m (allowed_last (Committed d u n m) es ok) in
-          record {
-            to = n;
-            counted_at = m;
-            committed = rw (same.0, same.1) at done;
-            none_since = no_config_right k exact (drop n log) (second_so a b x);
-          }
-      go (inr x) rec = rec x
-  config_committed (x ∷ es) ok run t c log e =
-      lift_config x es ok run t c log (config_committed es (allowed_before x es ok) run.1 t c log e)
-
-  -- a config that passes the test may be proposed
-  proposal : (es : Events) → are_allowed k es ≡ true → IsRun es → (t : T) (c : ID) (o : Option M)
-      → may_propose k es t c o ≡ true → (m : M) → o ≡ Some m
-      → MayProposeConfig k.rank k.config_of k.initial k.quorum_of (history k es) t c
-      (leader_log_in k es t c) m
-  proposal es ok run t c o e m is =
-      let log : List (Entry T D) = leader_log_in k es t c in
-      let now : M = effective_config k.config_of k.initial log in
-      let f : may_propose k es t c (Some m) ≡ true =
-      sym (ap (λ (o : Option M). may_propose k es t c o) is) ∙ e in
-      let a : Bool = k.intersect now m in
-      let b : Bool = k.intersect m m in
-      let d : Bool = is_config_committed k t c log es in
-      let f1 = second_so a (b && d) f in
-      let x : ConfigCommitted es t c log =
-      config_committed es ok run t c log (second_so b d f1) in
-      record {
-        committed_to = x.to;
-        counted_at = x.counted_at;
-        committed = x.committed;
-        before = x.committed.written;
-        none_since = x.none_since;
-        old_and_new = exact.intersect now m (first_so a (b && d) f);
-        new = exact.intersect m m (first_so b d f1);
-      }
-
-  step : (e : TraceEvent T ID D) (es : Events) → are_allowed k (e ∷ es) ≡ true
+  next : (e : TraceEvent T ID D) (es : List (TraceEvent T ID D)) → are_allowed_by k conf (e ∷ es) ≡ true
       → TermsHaveRanks k (e ∷ es) → IsRun es
-      → Next k.rank k.config_of k.initial k.quorum_of (history k es) (history k (e ∷ es))
-  step (Campaigned c t) es ok ranks run = record {
+      → NextBy k.rank rules (history k es) (history k (e ∷ es))
+  next (Campaigned c t) es ok ranks run = record {
     servers = λ s.
         does (history k es) (history k (Campaigned c t ∷ es)) (λ q. GrantVote t c) c
-        (may_campaign es c t (allowed_last (Campaigned c t) es ok)) s (k.same_id c s) refl refl;
+        (may_campaign es c t (allowed_last k exact conf (Campaigned c t) es ok)) s (k.same_id c s) refl refl;
     leaders = λ u d.
         campaigns (history k es) (history k (Campaigned c t ∷ es)) t u c d (log_in k es c)
-        (no_votes es c t (allowed_before (Campaigned c t) es ok) (allowed_last (Campaigned c t) es ok))
+        (no_votes k exact conf es c t (allowed_before k exact conf (Campaigned c t) es ok) (allowed_last k exact conf (Campaigned c t) es ok))
         (same_leader k t c u d) refl refl refl;
     ranks = ranks_right (Campaigned c t ∷ es) ok ranks;
   }
-  step (Granted s t c) es ok ranks run = record {
+  next (Granted s t c) es ok ranks run = record {
     servers = λ r.
         does (history k es) (history k (Granted s t c ∷ es))
         (λ q. if nat_lt (term_in k es q) (k.rank t) then GrantVote t c else LateVote t c) s
-        (may_vote es s t c (allowed_last (Granted s t c) es ok) (nat_lt (term_in k es s) (k.rank t)) refl) r
+        (may_vote es s t c (allowed_last k exact conf (Granted s t c) es ok) (nat_lt (term_in k es s) (k.rank t)) refl) r
         (k.same_id s r) refl refl;
     leaders = λ u d.
         inr (nothing (history k es) (history k (Granted s t c ∷ es)) u d refl refl);
     ranks = ranks_right (Granted s t c ∷ es) ok ranks;
   }
-  step (Appended s t c n sent) es ok ranks run = record {
+  next (Appended s t c n sent) es ok ranks run = record {
     servers = λ r.
         does (history k es) (history k (Appended s t c n sent ∷ es))
         (λ q. Append t c (take n (log_in k es q) ++ sent)) s
-        (may_append es s t c n sent (allowed_last (Appended s t c n sent) es ok)) r (k.same_id s r) refl
+        (may_append es s t c n sent (allowed_last k exact conf (Appended s t c n sent) es ok)) r (k.same_id s r) refl
         refl;
     leaders = λ u d.
         inr (nothing (history k es) (history k (Appended s t c n sent ∷ es)) u d refl refl);
     ranks = ranks_right (Appended s t c n sent ∷ es) ok ranks;
   }
-  step (Acked s t c n) es ok ranks run = record {
+  next (Acked s t c n) es ok ranks run = record {
     servers = λ r.
         does (history k es) (history k (Acked s t c n ∷ es)) (λ q. Ack t c n) s
-        (may_ack es s t c n (allowed_last (Acked s t c n) es ok)) r (k.same_id s r) refl refl;
+        (may_ack es s t c n (allowed_last k exact conf (Acked s t c n) es ok)) r (k.same_id s r) refl refl;
     leaders = λ u d. inr (nothing (history k es) (history k (Acked s t c n ∷ es)) u d refl refl);
     ranks = ranks_right (Acked s t c n ∷ es) ok ranks;
   }
-  step (Restarted s n) es ok ranks run = record {
+  next (Restarted s n) es ok ranks run = record {
     servers = λ r.
         does (history k es) (history k (Restarted s n ∷ es)) (λ q. Restart (take n (log_in k es q))) s
-        (may_restart es s n (allowed_last (Restarted s n) es ok)) r (k.same_id s r) refl refl;
+        (may_restart es s n (allowed_last k exact conf (Restarted s n) es ok)) r (k.same_id s r) refl refl;
     leaders = λ u d. inr (nothing (history k es) (history k (Restarted s n ∷ es)) u d refl refl);
     ranks = ranks_right (Restarted s n ∷ es) ok ranks;
   }
-  step (Wrote c t x) es ok ranks run =
-      let may = may_write es c t x (allowed_last (Wrote c t x) es ok) in
+  next (Wrote c t x) es ok ranks run =
+      let may = may_write es c t x (allowed_last k exact conf (Wrote c t x) es ok) in
       record {
         servers = λ r. inl refl;
         leaders = λ u d.
             writes (history k es) (history k (Wrote c t x ∷ es)) t u c d x may.0
             (λ m is.
-            proposal es (allowed_before (Wrote c t x) es ok) run t c (k.config_of x.content) may.1 m is)
+            right.may_append es (allowed_before k exact conf (Wrote c t x) es ok) run t c m
+            (rw is at may.1))
             (same_leader k t c u d) refl refl refl;
         ranks = ranks_right (Wrote c t x ∷ es) ok ranks;
       }
-  step (Committed c t n m) es ok ranks run = record {
+  next (Committed c t n m) es ok ranks run = record {
     servers = λ r. inl refl;
     leaders = λ u d. inr (nothing (history k es) (history k (Committed c t n m ∷ es)) u d refl refl);
     ranks = ranks_right (Committed c t n m ∷ es) ok ranks;
   }
-  step (Applied s t c n) es ok ranks run = record {
+  next (Applied s t c n) es ok ranks run = record {
     servers = λ r. inl refl;
     leaders = λ u d. inr (nothing (history k es) (history k (Applied s t c n ∷ es)) u d refl refl);
     ranks = ranks_right (Applied s t c n ∷ es) ok ranks;
   }
 
-  run_of : (es : Events) → are_allowed k es ≡ true → TermsHaveRanks k es → IsRun es
+  run_of : (es : List (TraceEvent T ID D)) → are_allowed_by k conf es ≡ true → TermsHaveRanks k es → IsRun es
   run_of [] ok ranks = record { events = λ s. refl; nothing_written = λ t c. refl }
   run_of (e ∷ es) ok ranks =
-      let run : IsRun es = run_of es (allowed_before e es ok) (ranks_before e es ranks) in
-      (step e es ok ranks run, run)
+      let run : IsRun es = run_of es (allowed_before k exact conf e es ok) (ranks_before e es ranks) in
+      (right.step e es ok run (next e es ok ranks run), run)
 
   -- what a server applied, it might apply
-  record WasKnown (es : Events) (r : ℕ) (p : List (Entry T D)) : Type 0 where
+  record WasKnown (es : List (TraceEvent T ID D)) (r : ℕ) (p : List (Entry T D)) : Type 0 where
     in_term : T
     by_leader : ID
     committed_to : ℕ
     counted_at : ℕ
-    committed : IsCommitted k.rank Q (history k es) in_term by_leader committed_to counted_at
+    committed : IsCommittedBy k.rank Q (history k es) in_term by_leader committed_to counted_at
     not_later : k.rank in_term ≤ r
     is : IsPrefix p (take committed_to (leader_log_in k es in_term by_leader))
 
-  lift_known : (e : TraceEvent T ID D) (es : Events) → are_allowed k (e ∷ es) ≡ true
+  lift_known : (e : TraceEvent T ID D) (es : List (TraceEvent T ID D)) → are_allowed_by k conf (e ∷ es) ≡ true
       → IsRun (e ∷ es) → (r : ℕ) (p : List (Entry T D)) → WasKnown es r p → WasKnown (e ∷ es) r p
   lift_known e es ok run r p x =
       let facts =
-      step_keeps_facts k.rank k.config_of k.initial k.quorum_of (initial_intersects (e ∷ es) ok)
+      step_keeps_facts k.rank rules Step Kept (right.steady (initial_intersects k exact conf (e ∷ es) ok))
       (history k (e ∷ es)) (history k es) (earlier k es) run in
       let still = facts.committed x.in_term x.by_leader x.committed_to x.counted_at x.committed in
       record {
@@ -656,18 +566,17 @@ module _ {T ID D M : Type 0} (k : Tests T ID D M) (exact : AreExact k) where
         is = rw (still.1) x.is;
       }
 
-  was_known : (es : Events) → are_allowed k es ≡ true → IsRun es → (r : ℕ) (p : List (Entry T D))
+  was_known : (es : List (TraceEvent T ID D)) → are_allowed_by k conf es ≡ true → IsRun es → (r : ℕ) (p : List (Entry T D))
       → is_known_committed k r p es ≡ true → WasKnown es r p
   was_known [] ok run r p e = absurd (cc)
   was_known (Committed d u n m ∷ es) ok run r p e =
-      lift_known (Committed d u n m) es ok run r p
-      (go (or_cases (nat_le (k.rank u) r && is_prefix k p (take n (leader_log_in k es u d)))
+      go (or_cases (nat_le (k.rank u) r && is_prefix k p (take n (leader_log_in k es u d)))
       (is_known_committed k r p es) e)
-      (was_known es (allowed_before (Committed d u n m) es ok) run.1 r p))
+      (was_known es (allowed_before k exact conf (Committed d u n m) es ok) run.1 r p)
     where
       go : (((nat_le (k.rank u) r && is_prefix k p (take n (leader_log_in k es u d))) ≡ true)
           ⊎ (is_known_committed k r p es ≡ true))
-          → (is_known_committed k r p es ≡ true → WasKnown es r p) → WasKnown es r p
+          → (is_known_committed k r p es ≡ true → WasKnown es r p) → WasKnown (Committed d u n m ∷ es) r p
       go (inl x) rec =
           let a : Bool = nat_le (k.rank u) r in
           let b : Bool = is_prefix k p (take n (leader_log_in k es u d)) in
@@ -676,19 +585,19 @@ module _ {T ID D M : Type 0} (k : Tests T ID D M) (exact : AreExact k) where
             by_leader = d;
             committed_to = n;
             counted_at = m;
-            committed = committed_right es u d n m (allowed_last (Committed d u n m) es ok);
+            committed = right.committed es d u n m ok run;
             not_later = leb-true (k.rank u) r (first_so a b x);
             is = prefix_right k exact p (take n (leader_log_in k es u d)) (second_so a b x);
           }
-      go (inr x) rec = rec x
+      go (inr x) rec = lift_known (Committed d u n m) es ok run r p (rec x)
   was_known (x ∷ es) ok run r p e =
-      lift_known x es ok run r p (was_known es (allowed_before x es ok) run.1 r p e)
+      lift_known x es ok run r p (was_known es (allowed_before k exact conf x es ok) run.1 r p e)
 
-  may_apply : (es : Events) → are_allowed k es ≡ true → IsRun es → (s : ID) (t : T) (c : ID) (n : ℕ)
-      → passes k (Applied s t c n) es ≡ true
-      → MayApply k.rank Q (history k es) (events_in k es s) n
+  may_apply : (es : List (TraceEvent T ID D)) → are_allowed_by k conf es ≡ true → IsRun es → (s : ID) (t : T) (c : ID) (n : ℕ)
+      → passes k conf (Applied s t c n) es ≡ true
+      → MayApplyBy k.rank Q (history k es) (events_in k es s) n
   may_apply es ok run s t c n e =
-      let a : Bool = is_elected k es t c in
+      let a : Bool = conf.is_elected es t c in
       let b : Bool = nat_le n (length (leader_log_in k es t c)) in
       let d : Bool = is_prefix k (take n (leader_log_in k es t c)) (log_in k es s) in
       let f : Bool = is_known_committed k (k.rank t) (take n (leader_log_in k es t c)) es in
@@ -699,7 +608,7 @@ module _ {T ID D M : Type 0} (k : Tests T ID D M) (exact : AreExact k) where
       record {
         term = t;
         leader = c;
-        elected = elected_right es t c (first_so a (b && (d && f)) e);
+        elected = right.elected es t c (first_so a (b && (d && f)) e);
         written = leb-true n (length (leader_log_in k es t c)) (first_so b (d && f) e1);
         in_log =
             prefix_right k exact (take n (leader_log_in k es t c)) (log_in k es s) (first_so d f e2);
@@ -714,15 +623,15 @@ module _ {T ID D M : Type 0} (k : Tests T ID D M) (exact : AreExact k) where
         };
       }
 
-  record AppliedAt (a : List (Entry T D)) (es : Events) : Type 0 where
+  record AppliedAt (a : List (Entry T D)) (es : List (TraceEvent T ID D)) : Type 0 where
     past : History T ID D
     among : IsAmong past (history k es ∷ earlier k es)
     server : ID
     count : ℕ
-    may : MayApply k.rank Q past (past.events server) count
+    may : MayApplyBy k.rank Q past (past.events server) count
     is : a ≡ take count (log_after (past.events server))
 
-  applied_later : (a : List (Entry T D)) (e : TraceEvent T ID D) (es : Events) → AppliedAt a es
+  applied_later : (a : List (Entry T D)) (e : TraceEvent T ID D) (es : List (TraceEvent T ID D)) → AppliedAt a es
       → AppliedAt a (e ∷ es)
   applied_later a e es x = record {
     past = x.past;
@@ -733,38 +642,36 @@ module _ {T ID D M : Type 0} (k : Tests T ID D M) (exact : AreExact k) where
     is = x.is;
   }
 
-  applied_at : (a : List (Entry T D)) (es : Events) → are_allowed k es ≡ true → IsRun es
+  applied_at : (a : List (Entry T D)) (es : List (TraceEvent T ID D)) → are_allowed_by k conf es ≡ true → IsRun es
       → WasApplied k a es → AppliedAt a es
   applied_at a [] ok run x = absurd x
   applied_at a (Applied s u d n ∷ es) ok run (inr x) =
       applied_later a (Applied s u d n) es
-      (applied_at a es (allowed_before (Applied s u d n) es ok) run.1 x)
+      (applied_at a es (allowed_before k exact conf (Applied s u d n) es ok) run.1 x)
   applied_at a (Applied s u d n ∷ es) ok run (inl e) = record {
     past = history k es;
     among = inr (inl refl);
     server = s;
     count = n;
     may =
-        may_apply es (allowed_before (Applied s u d n) es ok) run.1 s u d n
-        (allowed_last (Applied s u d n) es ok);
+        may_apply es (allowed_before k exact conf (Applied s u d n) es ok) run.1 s u d n
+        (allowed_last k exact conf (Applied s u d n) es ok);
     is = e;
   }
   applied_at a (e ∷ es) ok run x =
-      applied_later a e es (applied_at a es (allowed_before e es ok) run.1 x)
+      applied_later a e es (applied_at a es (allowed_before k exact conf e es ok) run.1 x)
 
-  pub trace_is_safe : (es : Events) → TermsHaveRanks k es → are_allowed k es ≡ true
-      → IsSafeTrace k es
+  pub trace_is_safe : (es : List (TraceEvent T ID D)) → TermsHaveRanks k es → are_allowed_by k conf es ≡ true
+      → IsSafeTraceBy k Q Step es
   trace_is_safe es ranks ok =
       let run : IsRun es = run_of es ok ranks in
-      let meet = initial_intersects es ok in
+      let steady = right.steady (initial_intersects k exact conf es ok) in
       record {
         execution = run;
-        safe =
-            execution_is_safe k.rank k.config_of k.initial k.quorum_of meet (history k es) (earlier k es)
-            run (history k es) (inl refl);
+        safe = execution_is_safe k.rank rules Step Kept steady (history k es) (earlier k es) run (history k es) (inl refl);
         applied = λ a b x y.
             let p = applied_at a es ok run x in let q = applied_at b es ok run y in
             rw (p.is, q.is)
-            (all_times_agree k.rank k.config_of k.initial k.quorum_of meet (history k es) (earlier k es)
-            run p.past q.past p.among q.among p.server q.server p.count q.count p.may q.may);
+            (all_times_agree k.rank rules Step Kept steady (history k es) (earlier k es) run p.past q.past
+            p.among q.among p.server q.server p.count q.count p.may q.may);
       }

@@ -2,7 +2,7 @@ use Rattle.std.proofs.Common.{◌≡◌, ◌<◌, ◌∙◌, length, take, inr, 
 use Rattle.std.proofs.lemmas.List.{take_all}
 use Rattle.raft_safety.specs.Checker.{trace_of}
 use Rattle.raft_safety.proofs.lemmas.CheckerCodeLemmas.{trace_more}
-use Rattle.raft_safety.proofs.lemmas.TraceLemmas.{trace_is_safe}
+use Rattle.raft_safety.proofs.lemmas.AppendedTraceLemmas.{trace_is_safe}
 use Rattle.raft_safety.proofs.check.check.Goals as goal
 
 pub loop-i-preserved : goal.loop-i-preserved

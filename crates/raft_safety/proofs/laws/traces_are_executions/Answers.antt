@@ -1,4 +1,4 @@
-use Rattle.raft_safety.proofs.lemmas.TraceLemmas.{trace_is_safe}
+use Rattle.raft_safety.proofs.lemmas.AppendedTraceLemmas.{trace_is_safe}
 use Rattle.raft_safety.proofs.laws.traces_are_executions.Goals as goal
 
 pub returns : goal.returns

@@ -2,7 +2,7 @@ use Rattle.std.proofs.Common.{◌≡◌, ◌<◌, ◌∙◌, [], length, ap, ari
 use Rattle.std.proofs.lemmas.List.{length-replicate, with_items_is}
 use Rattle.raft_safety.specs.Checker.{tests_of}
 use Rattle.raft_safety.proofs.lemmas.MergeLemmas.{all_placed, left, next_seen, none_seen, placed_less}
-use Rattle.raft_safety.proofs.lemmas.TraceLemmas.{trace_is_safe}
+use Rattle.raft_safety.proofs.lemmas.AppendedTraceLemmas.{trace_is_safe}
 use Rattle.raft_safety.proofs.merge.check_each.Goals as goal
 
 pub loop-checker-init : goal.loop-checker-init
