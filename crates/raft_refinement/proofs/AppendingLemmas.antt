@@ -44,7 +44,7 @@ use Rattle.raft_base.specs.LogId.{id_le, id_lt, next_index, same_ids}
 use Rattle.raft_base.specs.Vote.{by_leader_then_committed, vote_cmp}
 use Rattle.raft_safety.specs.Log.{Entry, IsPrefix, last_term}
 use Rattle.raft_safety.specs.Events.{Event, Append, Ack, log_after, term_after}
-use Rattle.raft_safety.specs.Facts.{IsElected}
+use Rattle.raft_safety.specs.Facts.{IsElected, appended}
 use Rattle.raft_safety.specs.Ranks.{IsAmong}
 use Rattle.raft_safety.specs.Rules.{EventsFollowRules, FollowsRaft, MayAppend}
 use Rattle.raft_safety.specs.Safety.{IsSafe}
@@ -247,8 +247,8 @@ module _ {L C K D : Type 0} (k : Leaders L C K) (p : Place L C K D) (ranked : Ar
       by (suc i) (suc j) lt u v =
           let one = last_of_take p.rank 0 i of_log u.0 u.1 in
           let two = last_of_take p.rank 0 j of_log v.0 v.1 in
-          let grows = last_term_grows p.rank p.quorum p.history lawful (suc (p.rank of_term)) (take (suc j) of_log) (take (suc i) of_log)
-          (written_is_from p.rank p.quorum p.history lawful of_term by_node el (take (suc i) of_log) (prefix_take (suc i) of_log))
+          let grows = last_term_grows p.rank (appended p.quorum) p.history lawful (suc (p.rank of_term)) (take (suc j) of_log) (take (suc i) of_log)
+          (written_is_from p.rank (appended p.quorum) p.history lawful of_term by_node el (take (suc i) of_log) (prefix_take (suc i) of_log))
           (take_within (suc j) (suc i) of_log (omega (arith, lt))) in
           omega (arith, one, two, grows, less_rank, ap p.rank u.2, ap p.rank v.2)
 
@@ -325,11 +325,11 @@ module _ {L C K D : Type 0} (k : Leaders L C K) (p : Place L C K D) (ranked : Ar
   same_by_term term (suc i) a b e =
       let x : length (take (suc i) log) ≡ suc i = length-take-le (suc i) log a in
       let y : length (take (suc i) lead) ≡ suc i = length-take-le (suc i) lead b in
-      match_from p.rank p.quorum p.history lawful safe.election_safety safe.leader_completeness (suc (term_after p.rank es))
+      match_from p.rank (appended p.quorum) p.history lawful safe.election_safety safe.leader_completeness (suc (term_after p.rank es))
       (suc (p.rank t)) (take (suc i) log) (take (suc i) lead)
-      (log_from p.rank p.quorum p.history lawful (suc (term_after p.rank es)) p.server es ok (omega arith) (take (suc i) log)
+      (log_from p.rank (appended p.quorum) p.history lawful (suc (term_after p.rank es)) p.server es ok (omega arith) (take (suc i) log)
       (had_now es (take (suc i) log) (prefix_take (suc i) log)))
-      (written_is_from p.rank p.quorum p.history lawful t by_node el (take (suc i) lead) (prefix_take (suc i) lead))
+      (written_is_from p.rank (appended p.quorum) p.history lawful t by_node el (take (suc i) lead) (prefix_take (suc i) lead))
       (omega (arith, x)) (x ∙ sym y) e
 
   -- an append, and the acknowledgement after it
@@ -352,11 +352,11 @@ module _ {L C K D : Type 0} (k : Leaders L C K) (p : Place L C K D) (ranked : Ar
           (prefix_trans
           (safe.leader_completeness known.in_term t known.by_leader by_node known.committed_to
           known.counted_at known.committed (omega (arith, known.not_later, later)) el)
-          (candidate_start p.rank p.quorum p.history lawful t by_node el))
+          (candidate_start p.rank (appended p.quorum) p.history lawful t by_node el))
       go (inr ge) =
           let f : u ≡ t = lawful.ranks u t d by_node elu el (omega (arith, ge, le)) in
           let el' : IsElected p.rank p.quorum p.history t d = rw f at elu in
-          of_same p.rank p.quorum p.history lawful (take n (p.history.leader_log u d)) u t d by_node f
+          of_same p.rank (appended p.quorum) p.history lawful (take n (p.history.leader_log u d)) u t d by_node f
           (safe.election_safety t d by_node el' el) (prefix_take n (p.history.leader_log u d))
 
   module _ (term : term_after p.rank es ≤ p.rank (k.committed leader)) where
@@ -369,7 +369,7 @@ module _ {L C K D : Type 0} (k : Leaders L C K) (p : Place L C K D) (ranked : Ar
     applied_in : (n : ℕ) → KnowsCommitted p.rank p.quorum p.history es n → Agree log lead n
     applied_in n knows =
         let may = knows.may in
-        let is = applied p.rank p.quorum p.history lawful safe es n may in
+        let is = applied p.rank (appended p.quorum) p.history lawful safe es n may in
         let st = held_known n knows in
         let long = length-take-le n (p.history.leader_log may.term may.leader) may.written in
         let fits : n ≤ length log = omega (arith, ap length is, length-take n log, long) in

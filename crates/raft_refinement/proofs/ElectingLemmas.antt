@@ -28,7 +28,7 @@ use Rattle.raft_base.specs.declared.log_id.LogIdOf.{LogIdOf}
 use Rattle.raft_base.specs.LogId.{id_le}
 use Rattle.raft_safety.specs.Log.{Entry, last_term}
 use Rattle.raft_safety.specs.Events.{Ack, Append, Event, GrantVote, LateVote, Restart}
-use Rattle.raft_safety.specs.Facts.{HasAcked, HasVoted, IsElected}
+use Rattle.raft_safety.specs.Facts.{HasAcked, HasVoted, IsElected, appended}
 use Rattle.raft_safety.specs.Rules.{FollowsRaft}
 use Rattle.raft_refinement.proofs.Calls.{CommitsByRule, CountsKeepVotes, ElectsByRule}
 use Rattle.raft_refinement.specs.Server.{IsIdAt, IsInLog, Leaders, Place}
@@ -83,7 +83,7 @@ own_past {L} {C} {K} {D} k p lawful leader node el not_first granted own there =
             → length (p.history.candidate_log (k.committed leader) node) < suc i
         go (inl lt) = lt
         go (inr le) =
-            by (candidate_from p.rank p.quorum p.history lawful (k.committed leader) node el front
+            by (candidate_from p.rank (appended p.quorum) p.history lawful (k.committed leader) node el front
             (prefix_take (suc i) (p.history.candidate_log (k.committed leader) node)))
           where
             front : List (Entry C D)
@@ -96,13 +96,13 @@ own_past {L} {C} {K} {D} k p lawful leader node el not_first granted own there =
             is_front =
                 ap (λ (n : ℕ). take n lead) (sym size)
                 ∙ take_prefix (prefix_trans (prefix_take (suc i) (p.history.candidate_log (k.committed leader) node))
-                (candidate_start p.rank p.quorum p.history lawful (k.committed leader) node el))
+                (candidate_start p.rank (appended p.quorum) p.history lawful (k.committed leader) node el))
 
-            by : IsFrom p.rank p.quorum p.history lawful (p.rank (k.committed leader)) front
+            by : IsFrom p.rank (appended p.quorum) p.history lawful (p.rank (k.committed leader)) front
                 → length (p.history.candidate_log (k.committed leader) node) < suc i
             by (inl none) = absurd (omega (arith, none, size))
             by (inr o) =
-                let one = last_of p.rank p.quorum p.history lawful (p.rank (k.committed leader)) front o in
+                let one = last_of p.rank (appended p.quorum) p.history lawful (p.rank (k.committed leader)) front o in
                 let two = last_of_take p.rank 0 i lead is.0 is.1 in
                 let three = ap (last_term p.rank) is_front in
                 let low = o.below in
@@ -113,10 +113,9 @@ commits_by_rule {L} {C} {K} {D} k p ranked lawful safe leader node matching know
     record {
       elected = knows.elected;
       own_term = own_past k p lawful leader node knows.elected knows.not_first granted own there;
-      within = within;
-      written = written;
+      written = omega (arith, within, written);
       having = λ v. id_le k.cmp (Some granted) (matching v);
-      is_quorum = quorum;
+      is_quorum = record { within = within; written = written; is_quorum = quorum };
       have_acked = λ v yes. has (matching v) v refl yes;
     }
   where

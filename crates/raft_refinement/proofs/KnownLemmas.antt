@@ -3,6 +3,7 @@ use Rattle.std.specs.Prelude.{◌≡◌, ◌≤◌, ◌-◌, ℕ, suc, Bool, Lis
 use Rattle.std.proofs.Common.{ap, ◌∙◌, arith}
 use Rattle.raft_safety.specs.Apply.{IsKnownCommitted}
 use Rattle.raft_safety.specs.Events.{Event, History, log_after, term_after}
+use Rattle.raft_safety.specs.Facts.{appended}
 use Rattle.raft_safety.specs.Log.{Entry}
 use Rattle.raft_safety.specs.Rules.{FollowsRaft}
 use Rattle.raft_safety.specs.Safety.{IsSafe}
@@ -48,7 +49,7 @@ module _ {C K D : Type 0} (rank : C → ℕ) (quorum : List (Entry C D) → (K �
   leader_knows lawful safe t s log reached n knows =
       let may = knows.may in
       let low = knows.reached in
-      let same = applied rank quorum h lawful safe es n may in
+      let same = applied rank (appended quorum) h lawful safe es n may in
       record {
         in_term = may.known.in_term;
         by_leader = may.known.by_leader;

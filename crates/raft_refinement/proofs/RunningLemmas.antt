@@ -36,7 +36,7 @@ use Rattle.raft_handlers.specs.Follow.{elected}
 use Rattle.std.specs.Ordering.{partial_ge}
 use Rattle.raft_safety.specs.Log.{Entry, IsPrefix}
 use Rattle.raft_safety.specs.Events.{Ack, Append, Event, GrantVote, History, log_after, term_after}
-use Rattle.raft_safety.specs.Facts.{HasAcked, HasVoted, IsCommitted, IsElected}
+use Rattle.raft_safety.specs.Facts.{HasAcked, HasVoted, IsCommitted, IsElected, appended}
 use Rattle.raft_safety.specs.Rules.{FollowsRaft, MayAck, MayAppend, MayGrantVote}
 use Rattle.raft_safety.specs.Apply.{IsKnownCommitted}
 use Rattle.raft_safety.specs.Configs.{effective_config, is_quorum}
@@ -562,7 +562,7 @@ module _ {L C K D M : Type 0} (c : SeenCluster L C K D M) (is_cluster : IsSeenCl
               is = prefix_itself (take d.granted.index (inv.h.leader_log t s));
             };
           };
-          reached = voted_term c.rank (Q c is_cluster) inv.h lawful s t s (inv.h.events s) (lawful.servers s) el.for_itself;
+          reached = voted_term c.rank (appended (Q c is_cluster)) inv.h lawful s t s (inv.h.events s) (lawful.servers s) el.for_itself;
         }
 
     idles : Idles c s w v → Carried c w v inv
@@ -781,6 +781,8 @@ module _ {L C K D M : Type 0} (c : SeenCluster L C K D M) (is_cluster : IsSeenCl
         events = λ r. if c.same_node s r then GrantVote to_be s ∷ inv.h.events r else inv.h.events r;
         candidate_log = λ u e. if mine to_be u e then own_log else inv.h.candidate_log u e;
         leader_log = λ u e. if mine to_be u e then own_log else inv.h.leader_log u e;
+        votes_by = inv.h.votes_by;
+        acks_by = inv.h.acks_by;
       }
 
       events_own : campaign.events s ≡ GrantVote to_be s ∷ inv.h.events s
@@ -807,7 +809,7 @@ module _ {L C K D M : Type 0} (c : SeenCluster L C K D M) (is_cluster : IsSeenCl
           let own : HasVoted to_be s (inv.h.events s) =
           subst (λ (x : K). HasVoted to_be x (inv.h.events x)) same
           (subst (λ (x : C). HasVoted x e (inv.h.events e)) same_term (inv.past.asked_first r u e voted)) in
-          let low = voted_term c.rank (Q c is_cluster) inv.h lawful s to_be s (inv.h.events s) (lawful.servers s) own in
+          let low = voted_term c.rank (appended (Q c is_cluster)) inv.h lawful s to_be s (inv.h.events s) (lawful.servers s) own in
           let high = higher in omega (arith, low, high)
 
       may_vote : MayGrantVote c.rank (Q c is_cluster) campaign s (inv.h.events s) to_be s
@@ -975,6 +977,8 @@ module _ {L C K D M : Type 0} (c : SeenCluster L C K D M) (is_cluster : IsSeenCl
         events = inv.h.events;
         candidate_log = inv.h.candidate_log;
         leader_log = λ u e. if mine in_term u e then inv.h.leader_log u e ++ entry ∷ [] else inv.h.leader_log u e;
+        votes_by = inv.h.votes_by;
+        acks_by = inv.h.acks_by;
       }
 
       written_is : written.leader_log in_term s ≡ longer
@@ -1193,7 +1197,13 @@ module _ {L C K D M : Type 0} (c : SeenCluster L C K D M) (is_cluster : IsSeenCl
     (first_in : IsAmong c.first c.terms)
     (not_first : (l : L) → IsAmong l c.leaders → 0 < c.kind.term_of l → c.kind.committed l ≡ c.first → ⊥) where
   abbrev nothing : History C K D
-  nothing = record { events = λ s. []; candidate_log = λ t d. []; leader_log = λ t d. [] }
+  nothing = record {
+    events = λ s. [];
+    candidate_log = λ t d. [];
+    leader_log = λ t d. [];
+    votes_by = λ t d n. false;
+    acks_by = λ t d n. false;
+  }
 
   begins : (w : SeenWorld L C K) → IsSeenFirst c w → Inv c w
   begins w f = record {

@@ -73,6 +73,8 @@ module _ {L C K D M : Type 0} (c : SeenCluster L C K D M) (is_cluster : IsSeenCl
     events = λ r. if c.same_node s r then e ∷ h.events r else h.events r;
     candidate_log = h.candidate_log;
     leader_log = h.leader_log;
+    votes_by = h.votes_by;
+    acks_by = h.acks_by;
   }
 
   -- the term of a vote is in use, and the candidate has voted for itself

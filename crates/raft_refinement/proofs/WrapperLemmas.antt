@@ -54,7 +54,7 @@ use Rattle.raft_progress.proofs.lemmas.OrderLemmas.{AtMost-refl}
 use Rattle.raft_safety.proofs.lemmas.PrefixLemmas.{prefix_itself, prefix_take, take_prefix}
 use Rattle.raft_safety.proofs.lemmas.ServerLemmas.{voted_term}
 use Rattle.raft_safety.specs.Events.{log_after}
-use Rattle.raft_safety.specs.Facts.{HasVoted, IsCommitted, IsElected}
+use Rattle.raft_safety.specs.Facts.{HasVoted, IsCommitted, IsElected, appended}
 use Rattle.raft_safety.specs.Log.{Entry, IsPrefix}
 use Rattle.raft_safety.specs.Ranks.{IsAmong}
 use Rattle.raft_state.specs.SnapshotMeta.{IsSnapshotCopy}
@@ -455,7 +455,7 @@ module _ {K N I L C E : Type 0} (ids : OrdMembers K) (node_eq : N → N → Bool
                   is = prefix_itself (take granted.index (p.history.leader_log t p.server));
                 };
               };
-              reached = voted_term p.rank p.quorum p.history is.lawful p.server t p.server (p.history.events p.server)
+              reached = voted_term p.rank (appended p.quorum) p.history is.lawful p.server t p.server (p.history.events p.server)
                   (is.lawful.servers p.server) knows.elected.for_itself;
             }
 

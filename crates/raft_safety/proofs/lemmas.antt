@@ -31,6 +31,7 @@ pub mod CheckerStepLemmas
 pub mod CheckerCodeLemmas
 pub mod RankLemmas
 pub mod ScenarioLemmas
+pub mod AppliedScenarioLemmas
 pub mod MembershipsLemmas
 pub mod MergeLemmas
 pub mod LoopLemmas

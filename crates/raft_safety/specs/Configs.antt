@@ -13,8 +13,8 @@ use Rattle.raft_safety.specs.Safety.{IsSafe}
 module _ {T D M : Type 0} (config_of : D → Option M) where
   -- the config in effect at the end of a log: that of its last entry that holds one, and the initial
   -- one if none does. So a config takes effect when it is appended, as the Raft paper has it, and
-  -- hashicorp's Raft and openraft do. In etcd it takes effect when it is applied: these rules do not
-  -- cover that
+  -- hashicorp's Raft and openraft do. In etcd it takes effect when it is applied: `AppliedConfigs` has
+  -- the rules for that
   abbrev pub effective_config : M → List (Entry T D) → M
   effective_config initial [] = initial
   effective_config initial (e ∷ es) =

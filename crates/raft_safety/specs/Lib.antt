@@ -14,6 +14,7 @@ pub mod Trace
 pub mod AppliedTrace
 pub mod Inner
 pub mod Scenarios
+pub mod AppliedScenarios
 pub mod Checker
 pub mod Memberships
 pub mod Merge

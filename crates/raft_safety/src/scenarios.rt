@@ -1,5 +1,7 @@
 //! Traces of clusters as examples: what clusters do is allowed, and so is safe, and what breaks a
-//! rule is refused. The tables of events are in `specs/Scenarios.antt`.
+//! rule is refused. The tables of events are in `specs/Scenarios.antt`, and those of configs that count
+//! once they are applied in `specs/AppliedScenarios.antt`.
+ghost use Rattle.raft_safety.specs.AppliedScenarios.{AreAppliedConfigs};
 ghost use Rattle.raft_safety.specs.Scenarios.{AreDisturbances, AreLeaderIds, AreMemberChanges, AreRefusedByRule, IsFigure8};
 
 /// Figure 8 of the Raft paper in its states c, d and e: an entry of an earlier term on a majority
@@ -29,4 +31,10 @@ pub fn leader_ids()
 /// An event that breaks a rule is refused, by the first rule that it breaks.
 pub fn refused()
     ensures { AreRefusedByRule }
+{}
+
+/// If each config counts once it is applied: voters change one by one, and an election or a commit
+/// by a config that is not known in time, or that two configs follow, is refused.
+pub fn applied_configs()
+    ensures { AreAppliedConfigs }
 {}

@@ -16,12 +16,15 @@ may_commit eq has_quorum from written acked n own within is rank quorum h t c el
     record {
       elected = elected;
       own_term = omega (arith, e, own);
-      within = within;
-      written = omega (arith, f);
+      written = omega (arith, f, within);
       having = is_member eq acked;
-      is_quorum =
-          ap (λ (l : List (Entry ℕ ℕ)). quorum l (is_member eq acked)) all
-          ∙ q (is_member eq acked) ∙ is;
+      is_quorum = record {
+        within = within;
+        written = omega (arith, f);
+        is_quorum =
+            ap (λ (l : List (Entry ℕ ℕ)). quorum l (is_member eq acked)) all
+            ∙ q (is_member eq acked) ∙ is;
+      };
       have_acked = a;
     }
 
@@ -44,7 +47,7 @@ may_propose from committed configs own within rank eq configs_of initial h t c m
       committed_to = committed;
       counted_at = m;
       committed = is;
-      before = is.written;
+      before = is.is_quorum.written;
       none_since = none_after configs_of configs committed (h.leader_log t c) within none;
       coherent = co;
     }

@@ -32,6 +32,7 @@ use Rattle.raft_safety.specs.Events.{History}
 use Rattle.raft_safety.specs.Facts.{Counting, HasVoted, IsCommittedBy, IsElectedBy}
 use Rattle.raft_safety.specs.Configs.{HoldNoConfig, QuorumsIntersect, effective_config}
 use Rattle.raft_safety.specs.AppliedConfigs.{
+  FollowsRaftWhenApplied,
   HoldAtMostOneConfig,
   IsInitialOrKnown,
   IsKnown,
@@ -86,7 +87,7 @@ use Rattle.raft_safety.specs.AppliedTrace.{
 }
 use Rattle.raft_safety.proofs.lemmas.PrefixLemmas.{prefix_itself, take_prefix}
 use Rattle.raft_safety.proofs.lemmas.RuleLemmas.{intersect_tests, known_commit_tests, may_commit_known, passes}
-use Rattle.raft_safety.proofs.lemmas.AppliedExecutionLemmas.{Counts, steady}
+use Rattle.raft_safety.proofs.lemmas.AppliedExecutionLemmas.{Counts, execution_follows, steady}
 use Rattle.raft_safety.proofs.lemmas.StepLemmas.{step_keeps_facts}
 use Rattle.raft_safety.proofs.lemmas.TestLemmas.{
   acked_right,
@@ -570,3 +571,11 @@ module _ {T ID D M : Type 0} (k : Tests T ID D M) (exact : AreExact k) where
 
   pub trace_is_safe : (es : Events) → TermsHaveRanks k es → AreAllowed es → IsSafeAppliedTrace k es
   trace_is_safe es ranks ok = traces.trace_is_safe k exact (applied_tests k) Rules Step Kept right es ranks ok
+
+  -- the history of such a trace follows the rules
+  pub trace_follows : (es : Events) → TermsHaveRanks k es → AreAllowed es
+      → FollowsRaftWhenApplied k.rank k.config_of k.initial k.quorum_of (history k es)
+  trace_follows es ranks ok =
+      execution_follows k.rank k.config_of k.initial k.quorum_of
+      (traces.initial_intersects k exact (applied_tests k) es ok) (history k es) (earlier k es)
+      (trace_is_safe es ranks ok).execution (history k es) (inl refl)

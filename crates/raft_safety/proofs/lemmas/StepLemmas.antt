@@ -385,6 +385,18 @@ module _ {T ID D M : Type 0} (rank : T → ℕ) (rules : ConfigRules T ID D M)
       let x = last_of_among last earlier run h among in
       (run_holds h x.before x.run).follows
 
+  -- leaders append configs by the rules in each history of an execution
+  pub execution_proposes : (last : History T ID D) (earlier : List (History T ID D))
+      → IsExecutionBy Step last earlier → (h : History T ID D) → IsAmong h (last ∷ earlier)
+      → Proposes rules h
+  execution_proposes last earlier run h among =
+      let x = last_of_among last earlier run h among in (run_holds h x.before x.run).names
+
+  pub execution_kept : (last : History T ID D) (earlier : List (History T ID D))
+      → IsExecutionBy Step last earlier → (h : History T ID D) → IsAmong h (last ∷ earlier) → Kept h
+  execution_kept last earlier run h among =
+      let x = last_of_among last earlier run h among in (run_holds h x.before x.run).kept
+
   facts_same : (h : History T ID D) → FactsAreStableBy rank Q h h
   facts_same h = record {
     sent = λ t c i es x. x;
