@@ -50,11 +50,12 @@ pub fn applied_configs_are_safe<T, ID: Copy + Ord, D, M>()
     ensures { AppliedConfigsAreSafe T ID D M }
 {}
 
-/// The rules of applied configs follow from rules that each server can test by itself.
+/// The rules of configs that count once they are applied follow from rules that each server can test
+/// by itself.
 ///
 /// These are: a leader appends a config only once the last one in its log is known to it. A
-/// candidate or leader counts by a config that is known to it, or that another config follows in its
-/// log.
+/// candidate or leader counts by a config that at most one config follows. This config is known to
+/// it, or another config follows in its log.
 pub fn settled_configs_suffice<T, ID: Copy + Ord, D, M>()
     ensures { SettledConfigsSuffice T ID D M }
 {}

@@ -1,6 +1,9 @@
 //! Callers of the laws, each as an engine has the need of it.
 ghost use Rattle.raft_base.specs.LeaderId.{leader_id_cmp};
 ghost use Rattle.raft_base.specs.declared.leader_id.LeaderId.{LeaderId as LeaderIdRecord};
+ghost use Rattle.raft_safety.specs.AppliedConfigs.{AppliedConfigsAreSafe, SettledConfigsSuffice};
+ghost use Rattle.raft_safety.specs.AppliedExecution.{AppliedExecutionsAreSafe, AppliedStateMachinesAgree};
+ghost use Rattle.raft_safety.specs.AppliedTrace.{AppliedTracesAreExecutions};
 ghost use Rattle.raft_safety.specs.Apply.{StateMachinesAgree};
 ghost use Rattle.raft_safety.specs.Configs.{JointMembersAreSafe, StepsAreCoherent};
 ghost use Rattle.raft_safety.specs.Execution.{ExecutionsKeepFacts, StateMachinesAgreeAtAllTimes};
@@ -16,8 +19,10 @@ use raft_safety::check::check;
 use raft_safety::checker::Configs;
 use raft_safety::event::Event;
 use raft_safety::laws::{
+    applied_configs_are_safe, applied_executions_are_safe, applied_traces_are_executions,
     changing_members_are_safe, executions_are_safe, facts_are_stable, fixed_members_are_safe,
-    joint_members_are_safe, orders_have_ranks, state_machines_agree, traces_are_executions,
+    joint_members_are_safe, orders_have_ranks, settled_configs_suffice, state_machines_agree,
+    traces_are_executions,
 };
 use raft_safety::memberships::{Memberships, memberships_are_exact};
 use raft_safety::term::Term;
@@ -56,16 +61,34 @@ pub fn kind_is_safe<NID: NodeId, K: LeaderKind<NID>, D, M>()
     traces_are_executions::<K::Committed, NID, D, M>();
 }
 
+/// What an engine over a kind of leader ids may rely on if its configs count once they are applied:
+/// rules that each of its servers can test keep it safe, its servers apply the same entries at all
+/// times, and its traces can be checked.
+pub fn applied_kind_is_safe<NID: NodeId, K: LeaderKind<NID>, D, M>()
+    ensures members { AppliedConfigsAreSafe K.Committed NID D M }
+    ensures engine { SettledConfigsSuffice K.Committed NID D M }
+    ensures times { AppliedExecutionsAreSafe K.Committed NID D M }
+    ensures machines { AppliedStateMachinesAgree K.Committed NID D M }
+    ensures traces { AppliedTracesAreExecutions K.Committed NID D M }
+{
+    applied_configs_are_safe::<K::Committed, NID, D, M>();
+    settled_configs_suffice::<K::Committed, NID, D, M>();
+    applied_executions_are_safe::<K::Committed, NID, D, M>();
+    applied_traces_are_executions::<K::Committed, NID, D, M>();
+}
+
 /// Leader ids of a term and a node, as they are by default.
 pub fn default_ids_are_safe()
     ensures { AllowedTracesAgree (LeaderIdRecord ℕ) ℕ ℕ ℕ (leader_id_cmp nat_cmp) }
 {
     kind_is_safe::<u64, LeaderAdv, u64, u64>();
+    applied_kind_is_safe::<u64, LeaderAdv, u64, u64>();
 }
 
 /// Leader ids of standard Raft.
 pub fn standard_ids_are_safe() {
     kind_is_safe::<u64, LeaderStd, u64, u64>();
+    applied_kind_is_safe::<u64, LeaderStd, u64, u64>();
 }
 
 /// Whether a trace keeps the rules, checked by memberships of the layer. If it does, it is safe:

@@ -24,7 +24,7 @@ use Rattle.std.proofs.lemmas.Bool.{leb-true}
 use Rattle.raft_safety.specs.Log.{Entry}
 use Rattle.raft_safety.specs.Events.{History}
 use Rattle.raft_safety.specs.Facts.{IsCommitted, IsElected}
-use Rattle.raft_safety.specs.Configs.{HoldNoConfig, MayProposeConfig, QuorumsIntersect, effective_config, is_quorum}
+use Rattle.raft_safety.specs.Configs.{HoldNoConfig, MayProposeConfig, effective_config, is_quorum}
 use Rattle.raft_safety.specs.Execution.{ConfigRules, IsExecution, Next, use_appended}
 use Rattle.raft_safety.specs.Trace.{
   AreExact,

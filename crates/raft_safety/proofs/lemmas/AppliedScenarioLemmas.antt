@@ -1,11 +1,11 @@
 -- What the test says of the traces in `specs/AppliedScenarios.antt`.
-use Rattle.std.specs.Prelude.{◌≡◌, ℕ, true, reverse}
+use Rattle.std.specs.Prelude.{◌≡◌, true, reverse}
 use Rattle.std.specs.Cmp.{nat_eq_equiv}
 use Rattle.std.proofs.Common.{refl}
 use Rattle.std.proofs.lemmas.Bool.{eqb-true, eq-eqb}
 use Rattle.raft_safety.specs.Trace.{AreExact, are_allowed_by}
 use Rattle.raft_safety.specs.AppliedTrace.{applied_tests}
-use Rattle.raft_safety.specs.AppliedScenarios.{AreAppliedConfigs, command_committed, one_by_one, voters_changed, before_last_commit}
+use Rattle.raft_safety.specs.AppliedScenarios.{AreAppliedConfigs, one_by_one, voters_changed, before_last_commit}
 use Rattle.raft_safety.proofs.lemmas.AppliedTraceLemmas.{committed_right, trace_follows, trace_is_safe}
 use Rattle.raft_safety.proofs.lemmas.MembershipsLemmas.{majorities_share}
 

@@ -27,10 +27,10 @@ use Rattle.std.specs.Prelude.{
 use Rattle.std.specs.Cmp.{first_so, second_so}
 use Rattle.std.proofs.Common.{refl, sym, ap, ◌∙◌, inl, inr, arith, ltb-true}
 use Rattle.std.proofs.lemmas.Bool.{leb-true, eqb-true, eq-eqb, or_left, or_right}
-use Rattle.raft_safety.specs.Log.{Entry, IsPrefix}
+use Rattle.raft_safety.specs.Log.{Entry}
 use Rattle.raft_safety.specs.Events.{History}
 use Rattle.raft_safety.specs.Facts.{Counting, HasVoted, IsCommittedBy, IsElectedBy}
-use Rattle.raft_safety.specs.Configs.{HoldNoConfig, QuorumsIntersect, effective_config}
+use Rattle.raft_safety.specs.Configs.{HoldNoConfig, effective_config}
 use Rattle.raft_safety.specs.AppliedConfigs.{
   FollowsRaftWhenApplied,
   HoldAtMostOneConfig,

@@ -1,8 +1,7 @@
 -- What servers may apply agrees.
-use Rattle.std.specs.Prelude.{◌≡◌, ℕ, Bool, List, length, take}
+use Rattle.std.specs.Prelude.{◌≡◌, ℕ, List, length, take}
 use Rattle.std.proofs.Common.{sym, ap, ◌∙◌}
 use Rattle.std.proofs.lemmas.List.{length-take-le}
-use Rattle.raft_safety.specs.Log.{Entry}
 use Rattle.raft_safety.specs.Events.{Event, History, log_after}
 use Rattle.raft_safety.specs.Facts.{Counting}
 use Rattle.raft_safety.specs.Rules.{FollowsRaftBy}

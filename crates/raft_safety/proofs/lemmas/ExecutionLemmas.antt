@@ -1,6 +1,6 @@
 -- Executions in which each config counts from its append on follow the rules, and facts are stable in
 -- them.
-use Rattle.std.specs.Prelude.{◌≡◌, ◌⊎◌, ℕ, Bool, Option, List, ◌∷◌, take}
+use Rattle.std.specs.Prelude.{◌⊎◌, ℕ, Bool, Option, List, ◌∷◌, take}
 use Rattle.std.proofs.Common.{arith}
 use Rattle.raft_safety.specs.Log.{IsPrefix}
 use Rattle.raft_safety.specs.Events.{History, log_after}
