@@ -1040,16 +1040,16 @@ module _ {L C K D M : Type 0} (c : SeenCluster L C K D M) (is_cluster : IsSeenCl
         of_these = inr (rw written_is (prefix_itself longer));
       }
 
-      abbrev appended : History C K D
-      appended = with_event c is_cluster written s append
+      abbrev with_append : History C K D
+      with_append = with_event c is_cluster written s append
 
-      second_goes : GoesOn c s written first_goes.earlier appended
+      second_goes : GoesOn c s written first_goes.earlier with_append
       second_goes = one_event c is_cluster written first_goes.earlier first_goes.past s append may_append tt
 
-      events_two : appended.events s ≡ append ∷ inv.h.events s
+      events_two : with_append.events s ≡ append ∷ inv.h.events s
       events_two = own_events c is_cluster written s append
 
-      may_ack : MayAck c.rank (Q c is_cluster) appended (append ∷ inv.h.events s) in_term s (length longer)
+      may_ack : MayAck c.rank (Q c is_cluster) with_append (append ∷ inv.h.events s) in_term s (length longer)
       may_ack = record {
         reached = omega arith;
         elected = (second_goes.stable.elected in_term s el_written).0;
@@ -1058,16 +1058,16 @@ module _ {L C K D M : Type 0} (c : SeenCluster L C K D M) (is_cluster : IsSeenCl
       }
 
       abbrev acked : History C K D
-      acked = with_event c is_cluster appended s ack
+      acked = with_event c is_cluster with_append s ack
 
-      third_goes : GoesOn c s appended second_goes.earlier acked
+      third_goes : GoesOn c s with_append second_goes.earlier acked
       third_goes =
-          one_event c is_cluster appended second_goes.earlier second_goes.past s ack
-          (subst (λ (es : List (Event C K D)). MayAck c.rank (Q c is_cluster) appended es in_term s (length longer))
+          one_event c is_cluster with_append second_goes.earlier second_goes.past s ack
+          (subst (λ (es : List (Event C K D)). MayAck c.rank (Q c is_cluster) with_append es in_term s (length longer))
           (sym events_two) may_ack) tt
 
       events_three : acked.events s ≡ ack ∷ append ∷ inv.h.events s
-      events_three = own_events c is_cluster appended s ack ∙ ap (λ (es : List (Event C K D)). ack ∷ es) events_two
+      events_three = own_events c is_cluster with_append s ack ∙ ap (λ (es : List (Event C K D)). ack ∷ es) events_two
 
       stable : FactsAreStable c.rank c.config_of c.initial c.quorum_of inv.h acked
       stable =
