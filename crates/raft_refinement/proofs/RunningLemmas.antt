@@ -621,7 +621,7 @@ module _ {L C K D M : Type 0} (c : SeenCluster L C K D M) (is_cluster : IsSeenCl
 
             low : c.rank (c.kind.committed d.vote.leader_id) ≤ term_after c.rank (inv.h.events s)
             low =
-                voted_term c.rank (Q c is_cluster) inv.h lawful s (c.kind.committed d.vote.leader_id) s (inv.h.events s)
+                voted_term c.rank (appended (Q c is_cluster)) inv.h lawful s (c.kind.committed d.vote.leader_id) s (inv.h.events s)
                 (lawful.servers s) own
 
             by : IsNoLesser c.kind.order d.vote (w.servers s).vote → IsOwn c inv.h s (record (w.servers s) { vote = d.vote })
