@@ -138,6 +138,56 @@ module _ {K N C : Type 0} (eq : K → K → Bool) (old new : Leadership K N C) (
       by None f = subst (λ (l : Leadership K N C). l ≡ record old { followers = l.followers }) (sym (unknown f)) refl
       by (Some entry) f = (idle entry f).rest
 
+  -- and no match
+  pub give_up_matches : ((x y : K) → eq x y ≡ true → x ≡ y) → (x : K) → match_of (entry_of eq new x) ≡ match_of (entry_of eq old x)
+  give_up_matches nodes x = by (entry_of eq old to) refl
+    where
+      each : (entry : ProgressEntryOf C) → entry_of eq old to ≡ Some entry → (b : Bool) → eq to x ≡ b
+          → (b ≡ true → entry_of eq old x ≡ Some entry) → match_of (entry_of eq new x) ≡ match_of (entry_of eq old x)
+      each entry f false e own =
+          ap match_of ((idle entry f).member.entries x
+          ∙ ap (λ (b : Bool). cond b (Some (record entry { inflight = Idle })) (entry_of eq old x)) e)
+      each entry f true e own =
+          ap match_of ((idle entry f).member.entries x
+          ∙ ap (λ (b : Bool). cond b (Some (record entry { inflight = Idle })) (entry_of eq old x)) e)
+          ∙ sym (ap match_of (own refl))
+
+      by : (o : Option (ProgressEntryOf C)) → entry_of eq old to ≡ o → match_of (entry_of eq new x) ≡ match_of (entry_of eq old x)
+      by None f = ap (λ (l : Leadership K N C). match_of (entry_of eq l x)) (unknown f)
+      by (Some entry) f =
+          each entry f (eq to x) refl (λ e. ap (λ (y : K). entry_of eq old y) (sym (nodes to x e)) ∙ f)
+
+-- a leader that counts its own log up to a log id counts this as its own match, or no match has changed
+module _ {K N C : Type 0} (eq : K → K → Bool) (logs : OrdMembers C) (old new : Leadership K N C) (upto : Option (LogIdOf C))
+    (nodes : (x y : K) → eq x y ≡ true → x ≡ y) where
+  abbrev pub FlushedMatch : K → Type 0
+  FlushedMatch x = (match_of (entry_of eq new x) ≡ match_of (entry_of eq old x))
+      ⊎ ((old.id ≡ x) × (match_of (entry_of eq new x) ≡ upto))
+
+  pub flush_matches : ((entry : ProgressEntryOf C) → entry_of eq old old.id ≡ Some entry → id_le logs.cmp entry.matching upto ≡ true
+      → WritesEntry eq old old.id (flushed_entry upto) new)
+      → ((entry : ProgressEntryOf C) → entry_of eq old old.id ≡ Some entry → id_le logs.cmp entry.matching upto ≡ false → new ≡ old)
+      → (entry_of eq old old.id ≡ None → (x : K) → entry_of eq new x ≡ entry_of eq old x) → (x : K) → FlushedMatch x
+  flush_matches counted stale not_counted x = by (entry_of eq old old.id) refl
+    where
+      each : WritesEntry eq old old.id (flushed_entry upto) new → (b : Bool) → eq old.id x ≡ b → FlushedMatch x
+      each writes false e =
+          inl (ap match_of (writes.member.entries x ∙ ap (λ (b : Bool). cond b (Some (flushed_entry upto)) (entry_of eq old x)) e))
+      each writes true e =
+          inr (
+            nodes old.id x e,
+            ap match_of (writes.member.entries x ∙ ap (λ (b : Bool). cond b (Some (flushed_entry upto)) (entry_of eq old x)) e),
+          )
+
+      with_entry : (entry : ProgressEntryOf C) → entry_of eq old old.id ≡ Some entry → (b : Bool)
+          → id_le logs.cmp entry.matching upto ≡ b → FlushedMatch x
+      with_entry entry f false e = inl (ap (λ (l : Leadership K N C). match_of (entry_of eq l x)) (stale entry f e))
+      with_entry entry f true e = each (counted entry f e) (eq old.id x) refl
+
+      by : (o : Option (ProgressEntryOf C)) → entry_of eq old old.id ≡ o → FlushedMatch x
+      by None f = inl (ap match_of (not_counted f x))
+      by (Some entry) f = with_entry entry f (id_le logs.cmp entry.matching upto) refl
+
 -- a leader that counts its own log up to a log id, which it has acknowledged
 module _ {K N I L C E : Type 0} (ids : OrdMembers K) (node_eq : N → N → Bool) (kind : LeaderMembers L K C) (logs : OrdMembers C)
     (p : Place L C K E) (s : RaftStateIn K N I L C) (old new : Leadership K N C) (upto : Option (LogIdOf C))
@@ -333,6 +383,35 @@ module _ {K N L C : Type 0} (eq : K → K → Bool) (logs : OrdMembers C) (old n
       by : (new ≡ old) ⊎ IsTaken → new ≡ record old { followers = new.followers }
       by (inl same) = subst (λ (l : Leadership K N C). l ≡ record old { followers = l.followers }) (sym same) refl
       by (inr is) = is.writes.rest
+
+  -- a response leaves each match as it was, or it is what the response acknowledges
+  abbrev pub AnswersMatch : K → Type 0
+  AnswersMatch x = (match_of (entry_of eq new x) ≡ match_of (entry_of eq old x))
+      ⊎ ((from ≡ x) × (response.outcome ≡ Matches (match_of (entry_of eq new x))))
+
+  pub response_matches : ((x y : K) → eq x y ≡ true → x ≡ y) → (r : Result (Unit {0}) HandlerError)
+      → TakesResponse eq logs from response old new r → (x : K) → AnswersMatch x
+  response_matches nodes r takes x = by (taken_or_same r takes)
+    where
+      answered : (is : IsTaken) → match_of (entry_of eq new x) ≡ is.next.matching → from ≡ x
+          → (is.next.matching ≡ is.entry.matching)
+          ⊎ ((is_some response.request ≡ true) × (response.outcome ≡ Matches is.next.matching)) → AnswersMatch x
+      answered is now same (inl stays) =
+          inl (now ∙ stays ∙ sym (ap match_of (ap (λ (y : K). entry_of eq old y) (sym same) ∙ is.known)))
+      answered is now same (inr said) =
+          inr (same, said.1 ∙ ap (λ (o : Option (LogIdOf C)). let y : Outcome L C = Matches o in y) (sym now))
+
+      each : (is : IsTaken) → (b : Bool) → eq from x ≡ b → AnswersMatch x
+      each is false e =
+          inl (ap match_of (is.writes.member.entries x ∙ ap (λ (b : Bool). cond b (Some is.next) (entry_of eq old x)) e))
+      each is true e =
+          answered is
+          (ap match_of (is.writes.member.entries x ∙ ap (λ (b : Bool). cond b (Some is.next) (entry_of eq old x)) e))
+          (nodes from x e) (response_match logs.cmp is.entry is.next response.request response.outcome is.after)
+
+      by : (new ≡ old) ⊎ IsTaken → AnswersMatch x
+      by (inl same) = inl (ap (λ (l : Leadership K N C). match_of (entry_of eq l x)) same)
+      by (inr is) = each is (eq from x) refl
 
 -- a leader that takes a response, of which what it acknowledges is true
 module _ {K N L C E : Type 0} (k : Leaders L C K) (p : Place L C K E) (ids : K → K → Bool) (logs : OrdMembers C)

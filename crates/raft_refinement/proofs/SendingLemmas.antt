@@ -56,7 +56,7 @@ use Rattle.raft_refinement.specs.Seen.{leaders_of, seen}
 use Rattle.raft_refinement.specs.Server.{IsInHistory, IsInLog, Leaders, Place}
 use Rattle.raft_refinement.proofs.AppendingLemmas.{index_found}
 use Rattle.raft_refinement.proofs.KnownLemmas.{leader_knows}
-use Rattle.raft_refinement.proofs.MatchingLemmas.{matches_stay, same_matches}
+use Rattle.raft_refinement.proofs.MatchingLemmas.{matches_stay}
 use Rattle.raft_refinement.proofs.SeenLemmas.{exact_found}
 
 -- the log id before the entries that are in flight
@@ -226,35 +226,40 @@ module _ {K N I L C : Type 0} (eq : K → K → Bool) (logs : OrdMembers C) (s :
         with_last : ℕ → Leadership K N C
         with_last n = record old { followers = new.followers; last_request = n }
 
-    -- what is sent changes no match
+    -- and no match
+    pub send_matches : ((x y : K) → eq x y ≡ true → x ≡ y) → (r : Option (InflightOf C))
+        → SendsNext eq logs to (log_view_of s) most old new r → (x : K)
+        → match_of (entry_of eq new x) ≡ match_of (entry_of eq old x)
+    send_matches nodes r call x = by (entry_of eq old to) refl
+      where
+        each : (entry next : ProgressEntryOf C) → entry_of eq old to ≡ Some entry → IsFromLog entry next
+            → WritesMember eq old.followers to next new.followers → (b : Bool) → eq to x ≡ b
+            → match_of (entry_of eq new x) ≡ match_of (entry_of eq old x)
+        each entry next f is writes false e =
+            ap match_of (writes.entries x ∙ ap (λ (b : Bool). cond b (Some next) (entry_of eq old x)) e)
+        each entry next f is writes true e =
+            ap match_of (writes.entries x ∙ ap (λ (b : Bool). cond b (Some next) (entry_of eq old x)) e)
+            ∙ is.same ∙ sym (ap match_of (ap (λ (y : K). entry_of eq old y) (sym (nodes to x e)) ∙ f))
+
+        with_entry : (entry : ProgressEntryOf C) → entry_of eq old to ≡ Some entry → (o : Option (ProgressEntryOf C))
+            → after_send logs.cmp entry (log_view_of s) most ≡ o → match_of (entry_of eq new x) ≡ match_of (entry_of eq old x)
+        with_entry entry f None g =
+            ap (λ (l : Leadership K N C). match_of (entry_of eq l x)) (call.unchanged_by_heartbeat entry f g)
+        with_entry entry f (Some next) g =
+            each entry next f (put_in_flight entry next most g) (call.in_flight entry next f g) (eq to x) refl
+
+        by : (o : Option (ProgressEntryOf C)) → entry_of eq old to ≡ o → match_of (entry_of eq new x) ≡ match_of (entry_of eq old x)
+        by None f = ap (λ (l : Leadership K N C). match_of (entry_of eq l x)) (call.unchanged (call.unknown f))
+        by (Some entry) f = with_entry entry f (after_send logs.cmp entry (log_view_of s) most) refl
+
+    -- so a leader that knows true matches knows them after a send
     module _ {E : Type 0} (k : Leaders L C K) (p : Place L C K E) (nodes : (x y : K) → eq x y ≡ true → x ≡ y) (leader : L) (node : K)
         (knows : KnowsMatches k p leader node (λ r. match_of (entry_of eq old r))) where
       pub send_counted : (r : Option (InflightOf C)) → SendsNext eq logs to (log_view_of s) most old new r
           → KnowsMatches k p leader node (λ r. match_of (entry_of eq new r))
-      send_counted r call = by (entry_of eq old to) refl
-        where
-          written : (entry next : ProgressEntryOf C) → entry_of eq old to ≡ Some entry → IsFromLog entry next
-              → WritesMember eq old.followers to next new.followers
-              → KnowsMatches k p leader node (λ r. match_of (entry_of eq new r))
-          written entry next f is writes =
-              matches_stay k p leader node (λ r. match_of (entry_of eq old r)) (λ r. match_of (entry_of eq new r)) knows
-              (λ v. inl (each v (eq to v) refl))
-            where
-              each : (v : K) (b : Bool) → eq to v ≡ b → match_of (entry_of eq new v) ≡ match_of (entry_of eq old v)
-              each v false e =
-                  ap match_of (writes.entries v ∙ ap (λ (b : Bool). cond b (Some next) (entry_of eq old v)) e)
-              each v true e =
-                  ap match_of (writes.entries v ∙ ap (λ (b : Bool). cond b (Some next) (entry_of eq old v)) e)
-                  ∙ is.same ∙ sym (ap match_of (ap (λ (y : K). entry_of eq old y) (sym (nodes to v e)) ∙ f))
-
-          with_entry : (entry : ProgressEntryOf C) → entry_of eq old to ≡ Some entry → (o : Option (ProgressEntryOf C))
-              → after_send logs.cmp entry (log_view_of s) most ≡ o → KnowsMatches k p leader node (λ r. match_of (entry_of eq new r))
-          with_entry entry f None g = same_matches k p eq nodes leader node old new knows (call.unchanged_by_heartbeat entry f g)
-          with_entry entry f (Some next) g = written entry next f (put_in_flight entry next most g) (call.in_flight entry next f g)
-
-          by : (o : Option (ProgressEntryOf C)) → entry_of eq old to ≡ o → KnowsMatches k p leader node (λ r. match_of (entry_of eq new r))
-          by None f = same_matches k p eq nodes leader node old new knows (call.unchanged (call.unknown f))
-          by (Some entry) f = with_entry entry f (after_send logs.cmp entry (log_view_of s) most) refl
+      send_counted r call =
+          matches_stay k p leader node (λ v. match_of (entry_of eq old v)) (λ v. match_of (entry_of eq new v)) knows
+          (λ v. inl (send_matches nodes r call v))
 
 -- what a leader puts in flight is sent by the rules
 module _ {K N I L C E : Type 0} (ids : OrdMembers K) (node_eq : N → N → Bool) (kind : LeaderMembers L K C) (logs : OrdMembers C)

@@ -1,6 +1,7 @@
 //! The servers of the first world of a run: new ones, and one that has started the cluster.
-ghost use Rattle.std.specs.Prelude.{◌≡◌, IfOk};
+ghost use Rattle.std.specs.Prelude.{◌≡◌, IfOk, OnOk};
 ghost use Rattle.std.specs.Set.{ClonesAreEqual};
+ghost use Rattle.raft_handlers.specs.Start.{first_log_id, CanDecide, Starts};
 ghost use Rattle.raft_refinement.specs.Running.{IsNewServer};
 ghost use Rattle.raft_state.specs.raft_state.VoteAndLog.{vote_of};
 
@@ -36,6 +37,10 @@ pub fn starts<NID: NodeId, N: Node, I: Instant, L: LeaderIdentity<Id = NID> + Dr
     requires clones_are_equal { ClonesAreEqual N.eq N.is_clone }
     requires new { IsNewServer L.LeaderIdentity L.Committed.Ord start state.old }
     ensures new { IsNewServer L.LeaderIdentity L.Committed.Ord start state.new }
+    ensures call { IfOk result (λ entries. Starts NID.eq N.eq
+        (first_log_id (L.committed (vote_of state.old).leader_id)) membership entries.items
+        state.old state.new) }
+    ensures decides { OnOk result (CanDecide NID.eq NID.cmp membership) }
 {
     let entries = start_cluster(state, id, membership);
     // The keys are read for the proof alone: they are in order.

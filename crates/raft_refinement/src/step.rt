@@ -1,10 +1,26 @@
 //! Calls of the handlers are steps of a run.
 //!
 //! Each function makes one call, and reads the keys of the log after it for the proof alone: they are
-//! in order.
-ghost use Rattle.std.specs.Prelude.{◌≡◌, IfOk, IfSome};
+//! in order. It promises that the call is a step, and what the call itself promises (`call`).
+ghost use Rattle.std.specs.Prelude.{◌≡◌, if◌then◌else◌, false, IfOk, IfSome, IsTrue};
+ghost use Rattle.std.specs.Ordering.{partial_ge};
 ghost use Rattle.std.specs.Set.{ClonesAreEqual};
+ghost use Rattle.raft_base.specs.UTime.{moment_of, utime_of};
+ghost use Rattle.raft_base.specs.Vote.{vote_cmp};
+ghost use Rattle.raft_handlers.specs.Append.{Answers};
+ghost use Rattle.raft_handlers.specs.Campaign.{Campaigns, CountsVoteOf, grants_vote};
+ghost use Rattle.raft_handlers.specs.Compared.{compared};
+ghost use Rattle.raft_handlers.specs.Follow.{heard};
+ghost use Rattle.raft_handlers.specs.Leadership.{BecomesLeader, Commits};
+ghost use Rattle.raft_handlers.specs.Proposals.{AppendsOwn};
+ghost use Rattle.raft_handlers.specs.Responses.{SendsNext};
+ghost use Rattle.raft_handlers.specs.Restart.{Restores};
+ghost use Rattle.raft_handlers.specs.Snapshot.{AnswersSnapshot};
+ghost use Rattle.raft_handlers.specs.Vote.{Grants};
 ghost use Rattle.raft_refinement.specs.Called.{AppendIsStep, CampaignIsStep, CommitIsStep, CountIsStep, ElectionIsStep, HearingIsStep, InstallIsStep, ProposalIsStep, RestartIsStep, SendIsStep, VoteIsStep};
+ghost use Rattle.raft_state.specs.SnapshotMeta.{IsSnapshotCopy};
+ghost use Rattle.raft_state.specs.raft_state.VoteAndLog.{log_view_of, vote_of};
+ghost use Rattle.raft_state.specs.declared.entry.payload.EntryPayload.TheVariants.{Blank, Normal};
 
 use raft_base::{Instant, LeaderIdentity, Node, NodeId, VoteIn};
 use raft_handlers::{
@@ -23,6 +39,7 @@ pub fn answers_candidate<NID: NodeId, N: Node, I: Instant, L: LeaderIdentity<Id 
 ) -> VoteResponse<L>
     ensures step { VoteIsStep D NID.Ord N.eq L.LeaderIdentity L.Committed.Ord
         request.now state.old result state.new }
+    ensures call { Grants L.order L.Committed.cmp request.now state.old result state.new }
 {
     let response = handle_vote_request(state, request);
     let _after = state.log_ids.key_log_ids();
@@ -37,6 +54,8 @@ pub fn answers_leader<NID: NodeId, N: Node, I: Instant, L: LeaderIdentity<Id = N
     requires clones_are_equal { ClonesAreEqual N.eq N.is_clone }
     ensures step { IfOk result (λ made. AppendIsStep D NID.Ord N.eq L.LeaderIdentity L.Committed.Ord
         request.now state.old made.0.outcome state.new) }
+    ensures call { IfOk result (λ made. Answers L.Committed.Ord NID.eq N.eq request.now
+        made.0.outcome state.old state.new) }
 {
     let made = handle_append_entries(state, request);
     let _after = state.log_ids.key_log_ids();
@@ -51,6 +70,9 @@ pub fn answers_snapshot<NID: NodeId, N: Node, I: Instant, L: LeaderIdentity<Id =
     requires clones_are_equal { ClonesAreEqual N.eq N.is_clone }
     ensures step { IfOk result (λ made. InstallIsStep D NID.Ord N.eq L.LeaderIdentity L.Committed.Ord
         request.now state.old made.0.outcome state.new) }
+    ensures call { IfOk result (λ made. AnswersSnapshot L.Committed.Ord L.eq
+        (IsSnapshotCopy NID.eq N.eq) request.now.meta made.0.outcome
+        (heard L.order request.now.leader_id state.old) state.new) }
 {
     let made = handle_install_snapshot(state, request);
     let _after = state.log_ids.key_log_ids();
@@ -65,6 +87,9 @@ pub fn hears<NID: NodeId, N: Node, I: Instant, L: LeaderIdentity<Id = NID> + Dro
 ) -> bool
     ensures step { HearingIsStep D NID.Ord N.eq L.LeaderIdentity L.Committed.Ord
         vote state.old state.new }
+    ensures answer { result ≡ partial_ge (vote_cmp L.order) vote (vote_of state.old) }
+    ensures call { state.new ≡ (if result
+        then record state.old { vote = utime_of vote (moment_of state.old.vote) } else state.old) }
 {
     let promised = state.promise(vote);
     let _after = state.log_ids.key_log_ids();
@@ -87,6 +112,8 @@ pub fn campaigns<
     requires clones_are_equal { ClonesAreEqual N.eq N.is_clone }
     ensures step { IfOk result (λ made. CampaignIsStep D NID.Ord N.eq L.LeaderIdentity C.Ord
         id state.old made state.new) }
+    ensures call { let by = compared NID.Ord N.eq L.LeaderIdentity C.Ord in
+        IfOk result (Campaigns by id greatest_term state.old state.new) }
 {
     let made = Candidate::campaign(id, greatest_term, state);
     let _after = state.log_ids.key_log_ids();
@@ -104,6 +131,10 @@ pub fn counts<
 >(candidate: &mut Candidate<NID, N, L, C>, from: &NID, response: &VoteResponse<L>)
     ensures step { CountIsStep I D NID.Ord N.eq L.LeaderIdentity C.Ord
         from.now response.now candidate.old candidate.new }
+    ensures call { IsTrue (grants_vote L.eq candidate.old.vote response.now) →
+        CountsVoteOf NID.eq from.now candidate.old candidate.new }
+    ensures ignored { grants_vote L.eq candidate.old.vote response.now ≡ false →
+        candidate.new ≡ candidate.old }
 {
     candidate.handle_vote_response(from, response);
 }
@@ -123,6 +154,8 @@ pub fn leads<
     requires clones_are_equal { ClonesAreEqual N.eq N.is_clone }
     ensures step { IfOk result (λ _. ElectionIsStep D NID.Ord N.eq L.LeaderIdentity C.Ord
         candidate.now state.old state.new) }
+    ensures call { let by = compared NID.Ord N.eq L.LeaderIdentity C.Ord in
+        IfOk result (BecomesLeader by candidate.now state.old state.new) }
 {
     let made = Leader::new(state, candidate);
     let _after = state.log_ids.key_log_ids();
@@ -144,6 +177,8 @@ pub fn proposes_blank<
     requires clones_are_equal { ClonesAreEqual N.eq N.is_clone }
     ensures step { IfOk result (λ _. ProposalIsStep D NID.Ord N.eq L.LeaderIdentity C.Ord
         leader.now state.old state.new) }
+    ensures call { let by = compared NID.Ord N.eq L.LeaderIdentity C.Ord in
+        IfOk result (AppendsOwn by leader.now Blank state.old state.new) }
 {
     let made = leader.propose_blank(state);
     let _after = state.log_ids.key_log_ids();
@@ -166,6 +201,8 @@ pub fn proposes<
     requires clones_are_equal { ClonesAreEqual N.eq N.is_clone }
     ensures step { IfOk result (λ _. ProposalIsStep D NID.Ord N.eq L.LeaderIdentity C.Ord
         leader.now state.old state.new) }
+    ensures call { let by = compared NID.Ord N.eq L.LeaderIdentity C.Ord in
+        IfOk result (AppendsOwn by leader.now (Normal «data») state.old state.new) }
 {
     let made = leader.propose(state, data);
     let _after = state.log_ids.key_log_ids();
@@ -187,6 +224,8 @@ pub fn sends<
     max_entries: u64,
 ) -> Option<InflightOf<C>>
     ensures step { IfSome result (SendIsStep D NID.Ord N.eq L.LeaderIdentity C.Ord leader.old state.now) }
+    ensures call { SendsNext NID.eq C.Ord to.now (log_view_of state.now) max_entries
+        leader.old leader.new result }
 {
     let _keys = state.log_ids.key_log_ids();
     leader.next_request(state, to, max_entries)
@@ -203,6 +242,7 @@ pub fn commits<
 >(leader: &Leader<NID, N, C>, state: &mut State<NID, N, I, L>) -> Result<bool, HandlerError>
     ensures step { IfOk result (λ _. CommitIsStep D NID.Ord N.eq L.LeaderIdentity C.Ord
         leader.now state.old state.new) }
+    ensures call { IfOk result (Commits NID.eq C.Ord leader.now state.old state.new) }
 {
     let made = leader.commit(state);
     let _after = state.log_ids.key_log_ids();
@@ -217,6 +257,8 @@ pub fn restarts<NID: NodeId, N: Node, I: Instant, L: LeaderIdentity<Id = NID> + 
     requires clones_are_equal { ClonesAreEqual N.eq N.is_clone }
     ensures step { IfOk result (λ state. RestartIsStep D NID.Ord N.eq L.LeaderIdentity L.Committed.Ord
         stored.now.vote stored.now.snapshot stored.now.entries.items state) }
+    ensures call { IfOk result (Restores L.Committed.Ord NID.eq N.eq stored.now.snapshot
+        stored.now.entries.items stored.now.committed) }
 {
     let state = restart_server(alloc, stored)?;
     let _after = state.log_ids.key_log_ids();

@@ -28,4 +28,6 @@ returns g c =
       new = started_server kind logs g.start c.args.state.now c.start_cluster-entries.new.state is call.sound
           (rw c.key_log_ids-after.ensures.keys at c.key_log_ids-after.ensures.canonical) call.rest _ c.start_cluster-entries.result
           call.starts (λ x starts. starts.log) call.err;
+      call = c.start_cluster-entries.ensures.starts;
+      decides = c.start_cluster-entries.ensures.decides;
     }

@@ -33,4 +33,5 @@ returns g c =
     record {
       step = vote_steps _ _ ids g.N.PartialEq.eq kind logs c.args.request.now c.args.state.now c.handle_vote_request-response.result
           c.handle_vote_request-response.new.state keeps c.handle_vote_request-response.ensures.answers;
+      call = c.handle_vote_request-response.ensures.answers;
     }

@@ -37,4 +37,5 @@ returns g c =
       step = append_steps _ _ ids g.N.PartialEq.eq kind logs no_changes c.args.request.now c.args.state.now
           c.handle_append_entries-made.new.state keeps call.vote
           (ap (λ s. s.purged_next) call.rest) c.handle_append_entries-made.result call.not_followed call.answers;
+      call = c.handle_append_entries-made.ensures.answers;
     }

@@ -36,4 +36,5 @@ returns g c =
       step = install_steps _ _ ids g.N.PartialEq.eq kind logs nothing_installed c.args.request.now c.args.state.now
           c.handle_install_snapshot-made.new.state keeps
           c.handle_install_snapshot-made.result call.not_followed call.followed call.answers call.refused;
+      call = c.handle_install_snapshot-made.ensures.answers;
     }

@@ -34,4 +34,5 @@ returns g c =
       step = campaign_steps _ _ ids g.N.PartialEq.eq kind logs c.args.id c.args.greatest_term c.args.state.now c.campaign-made.new.state
           keeps c.campaign-made.result
           c.campaign-made.ensures.campaigns;
+      call = c.campaign-made.ensures.campaigns;
     }

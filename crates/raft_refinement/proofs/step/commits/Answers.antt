@@ -34,4 +34,5 @@ returns g c =
       step = commit_steps _ _ ids g.N.PartialEq.eq kind logs c.args.leader.now c.args.state.now c.commit-made.new.state keeps
           c.commit-made.result
           c.commit-made.ensures.committed;
+      call = c.commit-made.ensures.committed;
     }

@@ -30,4 +30,6 @@ returns g c =
       step = count_steps _ _ ids g.N.PartialEq.eq kind logs c.args.from.now c.args.response.now c.args.candidate.now
           c.handle_vote_response.new.self
           c.handle_vote_response.ensures.counted;
+      call = c.handle_vote_response.ensures.counted;
+      ignored = c.handle_vote_response.ensures.ignored;
     }

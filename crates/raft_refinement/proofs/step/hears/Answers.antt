@@ -33,4 +33,6 @@ returns g c =
     record {
       step = hearing_step _ _ ids g.N.PartialEq.eq kind logs c.args.vote c.args.state.now c.promise-promised.new.self
           c.promise-promised.result keeps c.promise-promised.ensures.answer c.promise-promised.ensures.taken;
+      answer = c.promise-promised.ensures.answer;
+      call = c.promise-promised.ensures.taken;
     }

@@ -34,4 +34,5 @@ returns g c =
       step = election_steps _ _ ids g.N.PartialEq.eq kind logs c.args.candidate.now c.args.state.now c.new-made.new.state keeps
           c.new-made.result
           c.new-made.ensures.leads;
+      call = c.new-made.ensures.leads;
     }

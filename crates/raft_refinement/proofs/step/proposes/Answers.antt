@@ -34,4 +34,5 @@ returns g c =
     record {
       step = proposal_steps _ _ ids g.N.PartialEq.eq kind logs c.args.leader.now _ c.args.state.now c.propose-made.new.state keeps
           c.propose-made.result c.propose-made.ensures.appended refl;
+      call = c.propose-made.ensures.appended;
     }

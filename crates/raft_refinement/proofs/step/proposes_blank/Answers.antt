@@ -34,4 +34,5 @@ returns g c =
     record {
       step = proposal_steps _ _ ids g.N.PartialEq.eq kind logs c.args.leader.now _ c.args.state.now c.propose_blank-made.new.state keeps
           c.propose_blank-made.result c.propose_blank-made.ensures.appended refl;
+      call = c.propose_blank-made.ensures.appended;
     }

@@ -31,4 +31,5 @@ returns g c =
       step = restart_step _ _ ids g.N.PartialEq.eq kind logs c.args.stored.now.vote c.args.stored.now.snapshot
           c.args.stored.now.entries.items c.args.stored.now.committed c.in_ok-state.state call.sound
           (rw c.key_log_ids-after.ensures.keys at c.key_log_ids-after.ensures.canonical) call.vote call.restores;
+      call = call.restores;
     }

@@ -30,4 +30,5 @@ returns g c =
       step = send_steps _ _ ids g.N.PartialEq.eq kind logs c.args.leader.now c.next_request.new.self c.args.state.now c.args.to.now
           c.args.max_entries
           (rw c.key_log_ids-keys.ensures.keys at c.key_log_ids-keys.ensures.canonical) c.next_request.result c.next_request.ensures;
+      call = c.next_request.ensures;
     }
