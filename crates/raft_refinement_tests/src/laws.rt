@@ -1,4 +1,5 @@
 //! Callers of the laws, over both kinds of leader ids.
+ghost use Rattle.std.specs.Prelude.{◌≡◌, IsTrue};
 ghost use Rattle.raft_refinement.specs.Running.{RunsAreSafe};
 
 use raft_base::{EmptyNode, Instant, LeaderId, LeaderIdentity, Node, NodeId, leader_id_std};
@@ -11,15 +12,24 @@ pub fn engine_is_safe<NID: NodeId, N: Node, I: Instant, L: LeaderIdentity<Id = N
     runs_are_safe::<NID, N, I, L, D>();
 }
 
+/// Ids that are `==` are equal, as the theorem requires.
+pub fn ids_are_exact<NID: NodeId, L: LeaderIdentity<Id = NID>>()
+    requires nodes { (x y : NID) → IsTrue (NID.eq x y) → x ≡ y }
+    requires leaders { (x y : L) → IsTrue (L.eq x y) → x ≡ y }
+    requires committed { (x y : L.Committed) → IsTrue (L.Committed.eq x y) → x ≡ y }
+{}
+
 /// Leader ids of a term and a node, as they are by default.
 pub fn default_ids_are_safe() {
     nodes_are_a_cluster::<LeaderId<u64>>();
+    ids_are_exact::<u64, LeaderId<u64>>();
     engine_is_safe::<u64, EmptyNode, u64, LeaderId<u64>, u64>();
 }
 
 /// Leader ids of standard Raft.
 pub fn standard_ids_are_safe() {
     nodes_are_a_cluster::<leader_id_std::LeaderId<u64>>();
+    ids_are_exact::<u64, leader_id_std::LeaderId<u64>>();
     engine_is_safe::<u64, EmptyNode, u64, leader_id_std::LeaderId<u64>, u64>();
 }
 

@@ -1,0 +1,37 @@
+use Rattle.std.specs.Prelude.{ℕ}
+use Rattle.raft_handlers.specs.Compared.{LeaderMembers}
+use Rattle.raft_progress.specs.progress.Comparisons.{OrdMembers}
+use Rattle.raft_refinement_tests.proofs.StoryLemmas.{hears_again}
+use Rattle.raft_refinement_tests.proofs.story.hears_again.Goals as goal
+
+pub returns : goal.returns
+returns g c =
+    let ids : OrdMembers _ = record {
+      partial_cmp = g.NID.PartialOrd.partial_cmp;
+      eq = g.NID.PartialEq.eq;
+      cmp = g.NID.Ord.cmp;
+    } in
+    let logs : OrdMembers _ = record {
+      partial_cmp = g.C.PartialOrd.partial_cmp;
+      eq = g.C.PartialEq.eq;
+      cmp = g.C.Ord.cmp;
+    } in
+    let kind : LeaderMembers _ _ _ = record {
+      is_default = g.L.Default.is_default;
+      eq = g.L.PartialEq.eq;
+      order = g.L.LeaderIdentity.order;
+      term_of = g.L.LeaderIdentity.term_of;
+      voted = g.L.LeaderIdentity.voted;
+      committed = g.L.LeaderIdentity.committed;
+      leader_of = g.L.LeaderIdentity.leader_of;
+      committed_of = g.L.LeaderIdentity.committed_of;
+      same_as = g.L.LeaderIdentity.same_as;
+    } in
+    record {
+      run = hears_again g.row.I.Denot ℕ ids g.N.PartialEq.eq kind logs g.met.NID.Eq.laws c.args.to.now c.args.state.now c.args.follower.now c.exchanges.new.follower
+          c.exchanges-2.new.follower c.args.leader.now c.sends.new.leader c.beats.new.leader c.exchanges.new.leader c.give_up.new.self
+          c.sends-2.new.leader c.exchanges-2.new.leader c.in-Some._lost c.in-Some-beats.heartbeat c.in-Some-sends.request
+          c.in-Some-exchanges.answer c.in-Some-exchanges-2._outcome c.in-Some.ensures.run c.in-Some-beats.ensures.run
+          c.in-Some-beats.ensures.own c.in-Some-exchanges.ensures.run c.give_up.ensures.unknown c.give_up.ensures.idle
+          c.in-Some-sends.ensures.run c.in-Some-sends.ensures.own c.in-Some-exchanges-2.ensures.run;
+    }

@@ -1,0 +1,62 @@
+use Rattle.std.specs.Prelude.{ℕ}
+use Rattle.raft_handlers.specs.Compared.{LeaderMembers}
+use Rattle.raft_progress.specs.progress.Comparisons.{OrdMembers}
+use Rattle.std.proofs.Common.{rules}
+use Rattle.raft_refinement_tests.proofs.StoryLemmas.{by_vote, is_started}
+use Rattle.raft_refinement_tests.proofs.story.server.Goals as goal
+
+pub starts-requires : goal.starts-requires
+starts-requires g c =
+    let ids : OrdMembers _ = record {
+      partial_cmp = g.NID.PartialOrd.partial_cmp;
+      eq = g.NID.PartialEq.eq;
+      cmp = g.NID.Ord.cmp;
+    } in
+    let logs : OrdMembers _ = record {
+      partial_cmp = g.C.PartialOrd.partial_cmp;
+      eq = g.C.PartialEq.eq;
+      cmp = g.C.Ord.cmp;
+    } in
+    let kind : LeaderMembers _ _ _ = record {
+      is_default = g.L.Default.is_default;
+      eq = g.L.PartialEq.eq;
+      order = g.L.LeaderIdentity.order;
+      term_of = g.L.LeaderIdentity.term_of;
+      voted = g.L.LeaderIdentity.voted;
+      committed = g.L.LeaderIdentity.committed;
+      leader_of = g.L.LeaderIdentity.leader_of;
+      committed_of = g.L.LeaderIdentity.committed_of;
+      same_as = g.L.LeaderIdentity.same_as;
+    } in
+    let new = by_vote kind logs c.in-Ok-begins.ensures.new.0 c.in-Ok-begins.state c.in-Ok-begins.ensures.new.2 in
+    search (rules, new)
+
+pub returns : goal.returns
+returns g c =
+    let ids : OrdMembers _ = record {
+      partial_cmp = g.NID.PartialOrd.partial_cmp;
+      eq = g.NID.PartialEq.eq;
+      cmp = g.NID.Ord.cmp;
+    } in
+    let logs : OrdMembers _ = record {
+      partial_cmp = g.C.PartialOrd.partial_cmp;
+      eq = g.C.PartialEq.eq;
+      cmp = g.C.Ord.cmp;
+    } in
+    let kind : LeaderMembers _ _ _ = record {
+      is_default = g.L.Default.is_default;
+      eq = g.L.PartialEq.eq;
+      order = g.L.LeaderIdentity.order;
+      term_of = g.L.LeaderIdentity.term_of;
+      voted = g.L.LeaderIdentity.voted;
+      committed = g.L.LeaderIdentity.committed;
+      leader_of = g.L.LeaderIdentity.leader_of;
+      committed_of = g.L.LeaderIdentity.committed_of;
+      same_as = g.L.LeaderIdentity.same_as;
+    } in
+    let begun = c.in-Ok-begins.ensures in
+    record {
+      started = is_started ids g.N.PartialEq.eq kind logs begun.new.0 c.args.members.now.configs c.in-Ok-begins.state c.starts.new.state _
+          c.in-Ok.members c.in-Ok-starts._entries.items begun.new.1 begun.new.2 begun.first_term c.starts.ensures.new
+          c.in-Ok-starts.ensures.call c.in-Ok-starts.ensures.decides c.in-Ok.ensures.configs;
+    }

@@ -1,0 +1,39 @@
+use Rattle.std.specs.Prelude.{ℕ}
+use Rattle.raft_handlers.specs.Compared.{LeaderMembers}
+use Rattle.raft_progress.specs.progress.Comparisons.{OrdMembers}
+use Rattle.raft_refinement_tests.proofs.StoryLemmas.{if_some, some_of, tells}
+use Rattle.raft_refinement_tests.proofs.story.tell.Goals as goal
+
+pub returns : goal.returns
+returns g c =
+    let ids : OrdMembers _ = record {
+      partial_cmp = g.NID.PartialOrd.partial_cmp;
+      eq = g.NID.PartialEq.eq;
+      cmp = g.NID.Ord.cmp;
+    } in
+    let logs : OrdMembers _ = record {
+      partial_cmp = g.C.PartialOrd.partial_cmp;
+      eq = g.C.PartialEq.eq;
+      cmp = g.C.Ord.cmp;
+    } in
+    let kind : LeaderMembers _ _ _ = record {
+      is_default = g.L.Default.is_default;
+      eq = g.L.PartialEq.eq;
+      order = g.L.LeaderIdentity.order;
+      term_of = g.L.LeaderIdentity.term_of;
+      voted = g.L.LeaderIdentity.voted;
+      committed = g.L.LeaderIdentity.committed;
+      leader_of = g.L.LeaderIdentity.leader_of;
+      committed_of = g.L.LeaderIdentity.committed_of;
+      same_as = g.L.LeaderIdentity.same_as;
+    } in
+    record {
+      tells = if_some c.hears_again.result c.hears_again.ensures.run
+          (λ answer back.
+          tells g.row.I.Denot ℕ ids g.N.PartialEq.eq kind logs g.met.NID.Eq.laws c.args.ids.0 c.args.ids.1 c.args.ids.2 c.args.one.now c.wins.new.state c.writes-wrote.new.state
+          c.hears_again.new.follower c.args.two.now c.wins.new.other c.wins-2.new.other c.replicates.new.follower c.args.three.now
+          c.wins-2.new.state c.replicates.new.state c.in-Some.first c.in-Some-wins.second c.replicates.new.leader
+          c.hears_again.new.leader answer c.in-Some.ensures.run c.in-Some.ensures.of_campaign
+          (some_of _ c.writes-wrote.result tt c.in-Some-wrote.is c.writes-wrote.ensures.run) c.in-Some-wins.ensures.run
+          c.in-Some-wins.ensures.of_campaign c.in-Some-replicates.ensures.run back);
+    }

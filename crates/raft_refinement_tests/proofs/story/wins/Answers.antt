@@ -1,0 +1,44 @@
+use Rattle.std.specs.Prelude.{ℕ}
+use Rattle.raft_handlers.specs.Compared.{LeaderMembers}
+use Rattle.raft_progress.specs.progress.Comparisons.{OrdMembers}
+use Rattle.raft_refinement_tests.proofs.StoryLemmas.{of_campaign, ok_of, wins}
+use Rattle.raft_refinement_tests.proofs.story.wins.Goals as goal
+
+pub returns : goal.returns
+returns g c =
+    let ids : OrdMembers _ = record {
+      partial_cmp = g.NID.PartialOrd.partial_cmp;
+      eq = g.NID.PartialEq.eq;
+      cmp = g.NID.Ord.cmp;
+    } in
+    let logs : OrdMembers _ = record {
+      partial_cmp = g.C.PartialOrd.partial_cmp;
+      eq = g.C.PartialEq.eq;
+      cmp = g.C.Ord.cmp;
+    } in
+    let kind : LeaderMembers _ _ _ = record {
+      is_default = g.L.Default.is_default;
+      eq = g.L.PartialEq.eq;
+      order = g.L.LeaderIdentity.order;
+      term_of = g.L.LeaderIdentity.term_of;
+      voted = g.L.LeaderIdentity.voted;
+      committed = g.L.LeaderIdentity.committed;
+      leader_of = g.L.LeaderIdentity.leader_of;
+      committed_of = g.L.LeaderIdentity.committed_of;
+      same_as = g.L.LeaderIdentity.same_as;
+    } in
+    let counted = c.counts.ensures in
+    let made = c.leads-made.ensures in
+    let call = ok_of _ c.leads-made.result c.in-Ok-made.leader c.in-Ok-made.is made.call in
+    record {
+      run = wins g.row.I.Denot ℕ ids g.N.PartialEq.eq kind logs g.met.NID.Eq.laws c.args.id c.args.voter.now c.args.term c.args.state.now c.campaigns.new.state
+          c.leads-made.new.state c.args.other.now c.answers_candidate-response.new.state c.in-Ok.candidate c.counts.new.candidate
+          c.answers_candidate-response.result c.in-Ok-made.leader g.met.C.Eq.laws g.met.L.LeaderIdentity.made c.in-Ok.ensures.call
+          counted.call counted.ignored call c.request-request.result c.request-request.ensures
+          c.in-Ok.ensures.step c.answers_candidate-response.ensures.step c.answers_candidate-response.ensures.call counted.step
+          (ok_of _ c.leads-made.result c.in-Ok-made.leader c.in-Ok-made.is made.step);
+      of_campaign = of_campaign g.row.I.Denot ℕ ids g.N.PartialEq.eq kind logs g.met.NID.Eq.laws c.args.id c.args.voter.now c.args.term c.args.state.now c.campaigns.new.state
+          c.leads-made.new.state c.args.other.now c.answers_candidate-response.new.state c.in-Ok.candidate c.counts.new.candidate
+          c.answers_candidate-response.result c.in-Ok-made.leader g.met.C.Eq.laws g.met.L.LeaderIdentity.made c.in-Ok.ensures.call
+          counted.call counted.ignored call;
+    }

@@ -1,0 +1,442 @@
+//! A story of three servers that is a run, over any leader ids.
+//!
+//! The first server is elected, and writes an entry that reaches nobody. The third one is elected in
+//! a later term, replicates an entry of its own and commits it. Then the first one is heard again:
+//! its log conflicts and is cut, it takes the new entry, and knows that it is committed.
+//!
+//! The contract of each part says what the part makes of a run, and that of `three_servers` that a
+//! run ends with what it returns. So `laws::runs_are_safe` speaks of these calls.
+ghost use Rattle.std.specs.Prelude.{◌≡◌, ℕ, false, IfSome, IsTrue};
+ghost use Rattle.std.specs.Set.{ClonesAreEqual};
+ghost use Rattle.raft_refinement_tests.specs.Story.{AreApart, AreExact, AreLogged, EndsRun, Exchanges, IsKnown, IsOfCampaign, IsStarted, LeadsAlone, LeadsBack, LeadsWith, Sends, TellsStory, Wins};
+ghost use Rattle.raft_state.specs.log_id_list.FullLog.{full_log};
+ghost use Rattle.raft_state.specs.raft_state.VoteAndLog.{vote_of};
+
+use raft_base::{
+    Instant, LeaderIdentity, LogIdOf, LogIdOptionExt, LogStateReader, Node, NodeId, VoteIn,
+};
+use raft_handlers::{AppendEntries, Leader, Outcome, State};
+use raft_members::Membership;
+use raft_progress::InflightOf;
+use raft_refinement::{first, step};
+use raft_state::{EntryOf, EntryPayload, RaftStateIn, VoteStateReader};
+use std::alloc::Global;
+
+/// What is known of a server.
+#[derive(PartialEq, Drop)]
+pub struct Known<L, C> {
+    /// Its vote.
+    pub vote: VoteIn<L>,
+    /// Its last log id.
+    pub last: Option<LogIdOf<C>>,
+    /// The last log id that it knows to be committed.
+    pub committed: Option<LogIdOf<C>>,
+}
+
+/// What the three servers have come to, and what the first one has answered to a leader that it had
+/// not heard of.
+#[derive(PartialEq, Drop)]
+pub struct Story<L, C> {
+    pub one: Known<L, C>,
+    pub two: Known<L, C>,
+    pub three: Known<L, C>,
+    pub cut: Outcome<L, C>,
+}
+
+/// A server campaigns, past a term that it has heard of. Another one votes for it, and it leads.
+pub fn wins<
+    NID: NodeId,
+    N: Node,
+    I: Instant,
+    L: LeaderIdentity<Id = NID, Committed = C> + Drop,
+    C: Ord + Copy + Default + Drop + 'static,
+>(
+    id: NID,
+    term: u64,
+    state: &mut State<NID, N, I, L>,
+    voter: &NID,
+    other: &mut State<NID, N, I, L>,
+) -> Option<Leader<NID, N, C>>
+    requires clones_are_equal { ClonesAreEqual N.eq N.is_clone }
+    ensures run { IfSome result (Wins ℕ NID.Ord N.eq L.LeaderIdentity C.Ord id voter.now
+        state.old state.new other.old other.new) }
+    ensures of_campaign { IfSome result (λ _.
+        IsOfCampaign L.LeaderIdentity id (vote_of state.new).leader_id) }
+{
+    let Ok(mut candidate) = step::campaigns::<NID, N, I, L, C, u64>(id, term, state) else {
+        return None;
+    };
+    let request = candidate.request();
+    let response = step::answers_candidate::<NID, N, I, L, u64>(other, &request);
+    step::counts::<NID, N, I, L, C, u64>(&mut candidate, voter, &response);
+    let made = step::leads::<NID, N, I, L, C, u64>(state, &candidate);
+    drop(candidate);
+    let Ok(leader) = made else {
+        return None;
+    };
+    Some(leader)
+}
+
+/// A leader writes a blank entry at the end of its log, which is not empty.
+pub fn writes<
+    NID: NodeId,
+    N: Node,
+    I: Instant,
+    L: LeaderIdentity<Id = NID, Committed = C> + Drop,
+    C: Ord + Copy + Default + Drop + 'static,
+>(leader: &Leader<NID, N, C>, state: &mut State<NID, N, I, L>) -> Option<()>
+    requires clones_are_equal { ClonesAreEqual N.eq N.is_clone }
+    ensures run { IfSome result (λ _. LeadsAlone ℕ NID.Ord N.eq L.LeaderIdentity C.Ord
+        state.old state.new leader.now leader.now) }
+{
+    let Some(_last) = state.last_log_id().copied() else {
+        return None;
+    };
+    let Ok(_entry) = step::proposes_blank::<NID, N, I, L, C, u64>(leader, state) else {
+        return None;
+    };
+    Some(())
+}
+
+/// Reads entries of a log from the disk. Index 0 has the membership, and every other entry is blank.
+fn entries<
+    NID: NodeId,
+    N: Node,
+    I: Instant,
+    L: LeaderIdentity<Id = NID, Committed = C> + Drop,
+    C: Ord + Copy + Default + Drop + 'static,
+>(
+    state: &State<NID, N, I, L>,
+    members: &Membership<NID, N>,
+    from: u64,
+    until: u64,
+) -> Option<Vec<EntryOf<C, NID, N, u64>>>
+    requires clones_are_equal { ClonesAreEqual N.eq N.is_clone }
+    ensures logged { IfSome result (λ read. AreLogged (full_log state.now.log_ids) read.items) }
+{
+    let mut read = Vec::new(*members.get_joint_config().allocator());
+    for index in from..until {
+        let Some(log_id) = state.get_log_id(index) else {
+            return None;
+        };
+        let payload = if index == 0 {
+            let Ok(stored) = members.try_clone() else {
+                return None;
+            };
+            EntryPayload::Membership(stored)
+        } else {
+            EntryPayload::Blank
+        };
+        let Ok(()) = read.push(EntryOf { log_id, payload }) else {
+            return None;
+        };
+    }
+    Some(read)
+}
+
+/// A leader sends a follower the entries that it may lack.
+pub fn sends<
+    NID: NodeId,
+    N: Node,
+    I: Instant,
+    L: LeaderIdentity<Id = NID, Committed = C> + Drop,
+    C: Ord + Copy + Default + Drop + 'static,
+>(
+    leader: &mut Leader<NID, N, C>,
+    state: &State<NID, N, I, L>,
+    to: &NID,
+    members: &Membership<NID, N>,
+) -> Option<AppendEntries<L, C, NID, N, u64>>
+    requires clones_are_equal { ClonesAreEqual N.eq N.is_clone }
+    ensures run { IfSome result (Sends ℕ NID.Ord N.eq L.LeaderIdentity C.Ord
+        state.now leader.old leader.new) }
+    ensures own { IfSome result (λ request. request.leader_id ≡ (vote_of state.now).leader_id) }
+{
+    let Some(sending) = step::sends::<NID, N, I, L, C, u64>(leader, state, to, 64) else {
+        return None;
+    };
+    let InflightOf::Logs { id, log_id_range } = sending else {
+        return None;
+    };
+    let (prev, last) = (log_id_range.prev, log_id_range.last);
+    if !prev.has_next_index() || !last.has_next_index() {
+        return None;
+    }
+    let Some(entries) = entries(state, members, prev.next_index(), last.next_index()) else {
+        return None;
+    };
+    Some(AppendEntries {
+        leader_id: state.vote_ref().leader_id,
+        request: Some(id),
+        prev,
+        entries,
+        committed: state.committed,
+    })
+}
+
+/// A leader that waits for an answer sends a heartbeat about its last log id.
+pub fn beats<
+    NID: NodeId,
+    N: Node,
+    I: Instant,
+    L: LeaderIdentity<Id = NID, Committed = C> + Drop,
+    C: Ord + Copy + Default + Drop + 'static,
+>(
+    leader: &mut Leader<NID, N, C>,
+    state: &State<NID, N, I, L>,
+    to: &NID,
+    alloc: Global,
+) -> Option<AppendEntries<L, C, NID, N, u64>>
+    ensures run { IfSome result (Sends ℕ NID.Ord N.eq L.LeaderIdentity C.Ord
+        state.now leader.old leader.new) }
+    ensures own { IfSome result (λ request. request.leader_id ≡ (vote_of state.now).leader_id) }
+{
+    let Some(sending) = step::sends::<NID, N, I, L, C, u64>(leader, state, to, 64) else {
+        return None;
+    };
+    let InflightOf::None = sending else {
+        return None;
+    };
+    let Some(last) = state.last_log_id().copied() else {
+        return None;
+    };
+    Some(AppendEntries {
+        leader_id: state.vote_ref().leader_id,
+        request: None,
+        prev: state.get_log_id(last.index),
+        entries: Vec::new(alloc),
+        committed: state.committed,
+    })
+}
+
+/// A follower answers a request, and the leader takes the answer. Returns what it is.
+pub fn exchanges<
+    NID: NodeId,
+    N: Node,
+    I: Instant,
+    L: LeaderIdentity<Id = NID, Committed = C> + Drop,
+    C: Ord + Copy + Default + Drop + 'static,
+>(
+    leader: &mut Leader<NID, N, C>,
+    to: &NID,
+    follower: &mut State<NID, N, I, L>,
+    request: &AppendEntries<L, C, NID, N, u64>,
+) -> Option<Outcome<L, C>>
+    requires clones_are_equal { ClonesAreEqual N.eq N.is_clone }
+    ensures run { IfSome result (λ outcome. Exchanges ℕ NID.Ord N.eq L.LeaderIdentity C.Ord to.now
+        follower.old follower.new request.now outcome leader.old leader.new) }
+{
+    let Ok(made) = step::answers_leader::<NID, N, I, L, u64>(follower, request) else {
+        return None;
+    };
+    let Ok(()) = leader.handle_response(to, &made.0) else {
+        return None;
+    };
+    Some(made.0.outcome)
+}
+
+/// A leader, whose log is on disk, counts itself, and commits what a quorum has.
+pub fn commits<
+    NID: NodeId,
+    N: Node,
+    I: Instant,
+    L: LeaderIdentity<Id = NID, Committed = C> + Drop,
+    C: Ord + Copy + Default + Drop + 'static,
+>(leader: &mut Leader<NID, N, C>, state: &mut State<NID, N, I, L>) -> Option<bool>
+    ensures run { IfSome result (λ _. LeadsAlone ℕ NID.Ord N.eq L.LeaderIdentity C.Ord
+        state.old state.new leader.old leader.new) }
+{
+    let upto = state.last_log_id().copied();
+    let Ok(()) = leader.handle_flushed(state, upto) else {
+        return None;
+    };
+    let Ok(more) = step::commits::<NID, N, I, L, C, u64>(leader, state) else {
+        return None;
+    };
+    Some(more)
+}
+
+/// A leader writes an entry, replicates it to a follower, and commits it.
+pub fn replicates<
+    NID: NodeId,
+    N: Node,
+    I: Instant,
+    L: LeaderIdentity<Id = NID, Committed = C> + Drop,
+    C: Ord + Copy + Default + Drop + 'static,
+>(
+    leader: &mut Leader<NID, N, C>,
+    state: &mut State<NID, N, I, L>,
+    to: &NID,
+    follower: &mut State<NID, N, I, L>,
+    members: &Membership<NID, N>,
+) -> Option<bool>
+    requires clones_are_equal { ClonesAreEqual N.eq N.is_clone }
+    ensures run { IfSome result (λ _. LeadsWith ℕ NID.Ord N.eq L.LeaderIdentity C.Ord to.now
+        state.old state.new follower.old follower.new leader.old leader.new) }
+{
+    let Some(()) = writes(leader, state) else {
+        return None;
+    };
+    let Some(request) = sends(leader, state, to, members) else {
+        return None;
+    };
+    let Some(_outcome) = exchanges(leader, to, follower, &request) else {
+        return None;
+    };
+    commits(leader, state)
+}
+
+/// A leader hears of a follower again. A first request is lost. The answer to a heartbeat is that the
+/// logs conflict. Then the follower takes the entries that are sent again. Returns the answer to the
+/// heartbeat.
+pub fn hears_again<
+    NID: NodeId,
+    N: Node,
+    I: Instant,
+    L: LeaderIdentity<Id = NID, Committed = C> + Drop,
+    C: Ord + Copy + Default + Drop + 'static,
+>(
+    leader: &mut Leader<NID, N, C>,
+    state: &State<NID, N, I, L>,
+    to: &NID,
+    follower: &mut State<NID, N, I, L>,
+    members: &Membership<NID, N>,
+) -> Option<Outcome<L, C>>
+    requires clones_are_equal { ClonesAreEqual N.eq N.is_clone }
+    ensures run { IfSome result (λ outcome. LeadsBack ℕ NID.Ord N.eq L.LeaderIdentity C.Ord to.now
+        state.now follower.old follower.new outcome leader.old leader.new) }
+{
+    let Some(_lost) = sends(leader, state, to, members) else {
+        return None;
+    };
+    let Some(heartbeat) = beats(leader, state, to, *members.get_joint_config().allocator()) else {
+        return None;
+    };
+    let Some(answer) = exchanges(leader, to, follower, &heartbeat) else {
+        return None;
+    };
+    leader.give_up(to);
+    let Some(request) = sends(leader, state, to, members) else {
+        return None;
+    };
+    let Some(_outcome) = exchanges(leader, to, follower, &request) else {
+        return None;
+    };
+    Some(answer)
+}
+
+/// A new server, in a cluster with these members.
+fn server<
+    NID: NodeId,
+    N: Node,
+    I: Instant,
+    L: LeaderIdentity<Id = NID, Committed = C> + Drop,
+    C: Ord + Copy + Default + Drop + 'static,
+>(alloc: Global, id: &NID, members: &Membership<NID, N>) -> Option<State<NID, N, I, L>>
+    requires clones_are_equal { ClonesAreEqual N.eq N.is_clone }
+    ensures started { IfSome result (IsStarted L.LeaderIdentity C.Ord members.now.configs) }
+{
+    let Ok(members) = members.try_clone() else {
+        return None;
+    };
+    let Ok(mut state) = first::begins::<NID, N, I, L>(alloc) else {
+        return None;
+    };
+    let Ok(_entries) = first::starts::<NID, N, I, L, u64>(&mut state, id, members) else {
+        return None;
+    };
+    Some(state)
+}
+
+/// The story: the first server is elected and writes an entry, the third one replicates and commits
+/// another one, and hears of the first one again. Returns what the first one has answered then.
+pub fn tell<
+    NID: NodeId,
+    N: Node,
+    I: Instant,
+    L: LeaderIdentity<Id = NID, Committed = C> + Drop,
+    C: Ord + Copy + Default + Drop + 'static,
+>(
+    ids: (NID, NID, NID),
+    one: &mut State<NID, N, I, L>,
+    two: &mut State<NID, N, I, L>,
+    three: &mut State<NID, N, I, L>,
+    members: &Membership<NID, N>,
+) -> Option<Outcome<L, C>>
+    requires clones_are_equal { ClonesAreEqual N.eq N.is_clone }
+    ensures tells { IfSome result (TellsStory ℕ NID.Ord N.eq L.LeaderIdentity C.Ord
+        ids.0 ids.1 ids.2 one.old two.old three.old one.new two.new three.new) }
+{
+    let Some(first) = wins(ids.0, 0, one, &ids.1, two) else {
+        return None;
+    };
+    let wrote = writes(&first, one);
+    drop(first);
+    let Some(()) = wrote else {
+        return None;
+    };
+    let Some(mut second) = wins(ids.2, 1, three, &ids.1, two) else {
+        return None;
+    };
+    let Some(_more) = replicates(&mut second, three, &ids.1, two, members) else {
+        return None;
+    };
+    hears_again(&mut second, three, &ids.0, one, members)
+}
+
+/// Reads what is known of a server.
+fn knows<NID: NodeId, N: Node, I: Instant, L: Copy + Drop, C: Ord + Copy + Drop>(
+    state: &RaftStateIn<NID, N, I, L, C>,
+) -> Known<L, C>
+    ensures { IsKnown state.now result }
+{
+    Known {
+        vote: *state.vote_ref(),
+        last: state.last_log_id().copied(),
+        committed: state.committed,
+    }
+}
+
+/// Three servers with these ids, which are the members of a cluster, go through the story. The
+/// result is `None` if there is no memory.
+pub fn three_servers<
+    NID: NodeId,
+    N: Node,
+    I: Instant,
+    L: LeaderIdentity<Id = NID, Committed = C> + Drop,
+    C: Ord + Copy + Default + Drop + 'static,
+>(alloc: Global, ids: (NID, NID, NID), members: &Membership<NID, N>) -> Option<Story<L, C>>
+    requires clones_are_equal { ClonesAreEqual N.eq N.is_clone }
+    requires exact { AreExact NID.Ord C.Ord }
+    requires apart { AreApart NID.Ord ids.0 ids.1 ids.2 }
+    requires one_default { (a b : L) → L.Default.is_default a → L.Default.is_default b → a ≡ b }
+    requires one_term { (a b : L) → L.committed a ≡ L.committed b → L.term_of a ≡ L.term_of b }
+    ensures run { IfSome result (EndsRun I ℕ NID.Ord N.eq L.LeaderIdentity C.Ord ids.0 ids.1 ids.2) }
+{
+    let one = server::<NID, N, I, L, C>(alloc, &ids.0, members);
+    let two = server::<NID, N, I, L, C>(alloc, &ids.1, members);
+    let three = server::<NID, N, I, L, C>(alloc, &ids.2, members);
+    let Some(mut servers) = one.zip(two).zip(three) else {
+        return None;
+    };
+    let told = tell(
+        ids,
+        &mut servers.0.0,
+        &mut servers.0.1,
+        &mut servers.1,
+        members,
+    );
+    let one = knows(&servers.0.0);
+    let two = knows(&servers.0.1);
+    let three = knows(&servers.1);
+    drop(servers);
+    let Some(cut) = told else {
+        return None;
+    };
+    Some(Story {
+        one,
+        two,
+        three,
+        cut,
+    })
+}
