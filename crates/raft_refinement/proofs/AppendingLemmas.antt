@@ -247,8 +247,10 @@ module _ {L C K D : Type 0} (k : Leaders L C K) (p : Place L C K D) (ranked : Ar
       by (suc i) (suc j) lt u v =
           let one = last_of_take p.rank 0 i of_log u.0 u.1 in
           let two = last_of_take p.rank 0 j of_log v.0 v.1 in
-          let grows = last_term_grows p.rank (appended p.quorum) p.history lawful (suc (p.rank of_term)) (take (suc j) of_log) (take (suc i) of_log)
-          (written_is_from p.rank (appended p.quorum) p.history lawful of_term by_node el (take (suc i) of_log) (prefix_take (suc i) of_log))
+          let grows = last_term_grows p.rank (appended p.quorum) p.history lawful (suc (p.rank of_term)) (take (suc j) of_log)
+          (take (suc i) of_log)
+          (written_is_from p.rank (appended p.quorum) p.history lawful of_term by_node el (take (suc i) of_log)
+          (prefix_take (suc i) of_log))
           (take_within (suc j) (suc i) of_log (omega (arith, lt))) in
           omega (arith, one, two, grows, less_rank, ap p.rank u.2, ap p.rank v.2)
 

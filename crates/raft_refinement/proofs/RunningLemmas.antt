@@ -47,7 +47,17 @@ use Rattle.raft_refinement.specs.Server.{IsIdAt, IsInLog, IsLastId, IsServer, Kn
 use Rattle.raft_refinement.specs.Voting.{IsAsked}
 use Rattle.raft_refinement.specs.Appending.{AllInLog, InLogIfAny, IsSent, IsSnapshotSent}
 use Rattle.raft_refinement.specs.Electing.{KnowsMatches}
-use Rattle.raft_refinement.proofs.Stepping.{SeenCluster, GoesOn, IsSeenCluster, IsMatched, IsPast, IsPromised, IsVoted, StepLeaves, at_server}
+use Rattle.raft_refinement.proofs.Stepping.{
+  SeenCluster,
+  GoesOn,
+  IsSeenCluster,
+  IsMatched,
+  IsPast,
+  IsPromised,
+  IsVoted,
+  StepLeaves,
+  at_server,
+}
 use Rattle.raft_refinement.proofs.Views.{
   SeenAgree,
   Commits,
@@ -659,7 +669,8 @@ module _ {L C K D M : Type 0} (c : SeenCluster L C K D M) (is_cluster : IsSeenCl
                         ⊎ (term_after c.rank (inv.h.events s) < c.rank (c.kind.committed (w.servers s).vote.leader_id))
                         → node.0 ≡ s
                     voter (inl voted) =
-                        voted_once c.rank (appended (Q c is_cluster)) inv.h lawful s (c.kind.committed (w.servers s).vote.leader_id) node.0 s
+                        voted_once c.rank (appended (Q c is_cluster)) inv.h lawful s
+                        (c.kind.committed (w.servers s).vote.leader_id) node.0 s
                         (inv.h.events s) (lawful.servers s) voted
                         (subst (λ (t : C). HasVoted t s (inv.h.events s)) same own)
                     voter (inr later) = absurd (let most = low in let at = ranks in omega (arith, later, most, at))

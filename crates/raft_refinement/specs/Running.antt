@@ -5,7 +5,27 @@
 -- Each handler has a step. A step has the record that the handler's contract promises of the state
 -- before and after the call, the message that the handler takes from the network, and the message that
 -- the server sends afterwards. A step is whole before its message is sent: what it changes is on disk.
-use Rattle.std.specs.Prelude.{◌≡◌, ◌⊎◌, ◌+◌, ◌<◌, ◌≤◌, ℕ, Bool, true, false, List, [], ◌∷◌, length, map, Option, Some, None, IsTrue, if◌then◌else◌}
+use Rattle.std.specs.Prelude.{
+  ◌≡◌,
+  ◌⊎◌,
+  ◌+◌,
+  ◌<◌,
+  ◌≤◌,
+  ℕ,
+  Bool,
+  true,
+  false,
+  List,
+  [],
+  ◌∷◌,
+  length,
+  map,
+  Option,
+  Some,
+  None,
+  IsTrue,
+  if◌then◌else◌,
+}
 use Rattle.std.specs.Ordering.{partial_ge}
 use Rattle.raft_base.specs.declared.log_id.LogIdOf.{LogIdOf}
 use Rattle.raft_base.specs.LogId.{next_index}

@@ -29,8 +29,10 @@ module _ {T ID D M : Type 0} (rank : T → ℕ) (config_of : D → Option M) (in
   where
     -- candidates and leaders count by the rule
     pub record Counts (h : History T ID D) : Type 0 where
-      pub votes : (t : T) (c : ID) → IsElectedBy rank (applied rank config_of initial quorum_of) h t c → VotesByRule rank config_of initial quorum_of h t c
-      pub acks : (t : T) (c : ID) → IsElectedBy rank (applied rank config_of initial quorum_of) h t c → AcksByRule rank config_of initial quorum_of h t c
+      pub votes : (t : T) (c : ID) → IsElectedBy rank (applied rank config_of initial quorum_of) h t c
+          → VotesByRule rank config_of initial quorum_of h t c
+      pub acks : (t : T) (c : ID) → IsElectedBy rank (applied rank config_of initial quorum_of) h t c
+          → AcksByRule rank config_of initial quorum_of h t c
 
 module _ {T ID D M : Type 0} (rank : T → ℕ) (config_of : D → Option M) (initial : M) (quorum_of : M → (ID → Bool) → Bool)
     (meet : QuorumsIntersect quorum_of initial initial) where

@@ -8,10 +8,51 @@ use Rattle.raft_safety.specs.Events.{History}
 use Rattle.raft_safety.specs.Facts.{Counting, IsCommittedBy, IsElectedBy}
 use Rattle.raft_safety.specs.Safety.{IsSafeBy}
 use Rattle.raft_safety.specs.Configs.{HoldNoConfig, QuorumsIntersect, effective_config}
-use Rattle.raft_safety.specs.AppliedConfigs.{AppliedConfigsAreSafe, FollowsRaftWhenApplied, HoldAtMostOneConfig, IsKnown, IsSafeWhenApplied, KeepsQuorums, applied}
-use Rattle.raft_safety.proofs.lemmas.PrefixLemmas.{prefix_itself, prefix_trans, prefix_take, prefix_length, prefix_within, take_within, take_prefix}
-use Rattle.raft_safety.proofs.lemmas.ServerLemmas.{IsFrom, OneBelow, CompleteBelow, prefix_from, written_is_from, candidate_from, candidate_start, from_more, voted_once, committed_length, by_voter, of_same}
-use Rattle.raft_safety.proofs.lemmas.ConfigLemmas.{place, place_fits, place_none, upto, upto_fits, upto_grows, same_named, last_named, LastNamed, none_upto, members-none}
+use Rattle.raft_safety.specs.AppliedConfigs.{
+  AppliedConfigsAreSafe,
+  FollowsRaftWhenApplied,
+  HoldAtMostOneConfig,
+  IsKnown,
+  IsSafeWhenApplied,
+  KeepsQuorums,
+  applied,
+}
+use Rattle.raft_safety.proofs.lemmas.PrefixLemmas.{
+  prefix_itself,
+  prefix_trans,
+  prefix_take,
+  prefix_length,
+  prefix_within,
+  take_within,
+  take_prefix,
+}
+use Rattle.raft_safety.proofs.lemmas.ServerLemmas.{
+  IsFrom,
+  OneBelow,
+  CompleteBelow,
+  prefix_from,
+  written_is_from,
+  candidate_from,
+  candidate_start,
+  from_more,
+  voted_once,
+  committed_length,
+  by_voter,
+  of_same,
+}
+use Rattle.raft_safety.proofs.lemmas.ConfigLemmas.{
+  place,
+  place_fits,
+  place_none,
+  upto,
+  upto_fits,
+  upto_grows,
+  same_named,
+  last_named,
+  LastNamed,
+  none_upto,
+  members-none,
+}
 use Rattle.raft_safety.proofs.lemmas.SafetyLemmas.{safe}
 use Rattle.raft_safety.proofs.lemmas.ApplyLemmas.{state_machines_agree}
 use Rattle.raft_safety.proofs.lemmas.AppendLemmas.{check_suffices}

@@ -7,7 +7,17 @@ use Rattle.raft_safety.specs.Log.{Entry}
 use Rattle.raft_safety.specs.Events.{History}
 use Rattle.raft_safety.specs.Facts.{Counting, IsElectedBy}
 use Rattle.raft_safety.specs.Configs.{HoldNoConfig}
-use Rattle.raft_safety.specs.AppliedConfigs.{AcksByRule, FollowsRaftWhenApplied, FollowsRaftWhenSettled, IsFollowed, IsKnown, MayAppendConfig, SettledConfigsSuffice, VotesByRule, applied}
+use Rattle.raft_safety.specs.AppliedConfigs.{
+  AcksByRule,
+  FollowsRaftWhenApplied,
+  FollowsRaftWhenSettled,
+  IsFollowed,
+  IsKnown,
+  MayAppendConfig,
+  SettledConfigsSuffice,
+  VotesByRule,
+  applied,
+}
 use Rattle.raft_safety.proofs.lemmas.PrefixLemmas.{prefix_itself}
 use Rattle.raft_safety.proofs.lemmas.ServerLemmas.{IsFrom, prefix_from, written_is_from, candidate_from}
 

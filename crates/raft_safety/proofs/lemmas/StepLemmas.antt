@@ -10,8 +10,26 @@ use Rattle.raft_safety.specs.Rules.{AppendsOwnTermBy, EventsFollowRulesBy, Follo
 use Rattle.raft_safety.specs.Safety.{ElectionSafetyBy, IsSafeBy}
 use Rattle.raft_safety.specs.Apply.{MayApplyBy}
 use Rattle.raft_safety.specs.Ranks.{IsAmong}
-use Rattle.raft_safety.specs.Execution.{ConfigRules, FactsAreStableBy, Init, IsExecutionBy, LeaderAppendsBy, MayDoBy, NextBy, ServerStepBy, StartsCampaignBy}
-use Rattle.raft_safety.proofs.lemmas.PrefixLemmas.{append-nil, take_of_prefix, prefix_itself, prefix_trans, prefix_length, prefix_within, last_added}
+use Rattle.raft_safety.specs.Execution.{
+  ConfigRules,
+  FactsAreStableBy,
+  Init,
+  IsExecutionBy,
+  LeaderAppendsBy,
+  MayDoBy,
+  NextBy,
+  ServerStepBy,
+  StartsCampaignBy,
+}
+use Rattle.raft_safety.proofs.lemmas.PrefixLemmas.{
+  append-nil,
+  take_of_prefix,
+  prefix_itself,
+  prefix_trans,
+  prefix_length,
+  prefix_within,
+  last_added,
+}
 use Rattle.raft_safety.proofs.lemmas.ServerLemmas.{IsFrom, had_now, log_from, last_of}
 use Rattle.raft_safety.proofs.lemmas.ApplyLemmas.{state_machines_agree}
 

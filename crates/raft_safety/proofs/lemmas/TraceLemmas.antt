@@ -1,5 +1,29 @@
 -- A trace that passes the test is an execution, however a cluster uses configs.
-use Rattle.std.specs.Prelude.{◌≡◌, ◌⊎◌, ◌≤◌, ℕ, Bool, true, false, not, ◌&&◌, ◌||◌, nat_lt, nat_le, if◌then◌else◌, Some, is_none, List, [], ◌∷◌, ◌++◌, length, take, drop, get_or}
+use Rattle.std.specs.Prelude.{
+  ◌≡◌,
+  ◌⊎◌,
+  ◌≤◌,
+  ℕ,
+  Bool,
+  true,
+  false,
+  not,
+  ◌&&◌,
+  ◌||◌,
+  nat_lt,
+  nat_le,
+  if◌then◌else◌,
+  Some,
+  is_none,
+  List,
+  [],
+  ◌∷◌,
+  ◌++◌,
+  length,
+  take,
+  drop,
+  get_or,
+}
 use Rattle.std.specs.Cmp.{first_so, second_so}
 use Rattle.std.proofs.Common.{refl, sym, ap, ◌∙◌, inl, inr, arith, ltb-true}
 use Rattle.std.proofs.lemmas.Bool.{leb-true, ltb-false, or_left, or_right}
@@ -13,7 +37,42 @@ use Rattle.raft_safety.specs.Apply.{MayApplyBy}
 use Rattle.raft_safety.specs.Configs.{QuorumsIntersect}
 use Rattle.raft_safety.specs.Ranks.{IsAmong}
 use Rattle.raft_safety.specs.Execution.{ConfigRules, IsExecutionBy, LeaderAppendsBy, MayDoBy, NextBy, ServerStepBy, StartsCampaignBy}
-use Rattle.raft_safety.specs.Trace.{Acked, Appended, Applied, AreExact, Campaigned, Committed, Granted, ConfigTests, IsSafeTraceBy, Restarted, TermsHaveRanks, Tests, TraceEvent, WasApplied, Wrote, are_allowed_by, campaign_terms, candidate_log_in, common_prefix, durable, earlier, events_in, has_campaigned, has_kept, history, is_allowed_by, is_known_committed, is_prefix, is_up_to_date, leader_log_in, log_in, same_leader, term_in, voted_in}
+use Rattle.raft_safety.specs.Trace.{
+  Acked,
+  Appended,
+  Applied,
+  AreExact,
+  Campaigned,
+  Committed,
+  Granted,
+  ConfigTests,
+  IsSafeTraceBy,
+  Restarted,
+  TermsHaveRanks,
+  Tests,
+  TraceEvent,
+  WasApplied,
+  Wrote,
+  are_allowed_by,
+  campaign_terms,
+  candidate_log_in,
+  common_prefix,
+  durable,
+  earlier,
+  events_in,
+  has_campaigned,
+  has_kept,
+  history,
+  is_allowed_by,
+  is_known_committed,
+  is_prefix,
+  is_up_to_date,
+  leader_log_in,
+  log_in,
+  same_leader,
+  term_in,
+  voted_in,
+}
 use Rattle.raft_safety.proofs.lemmas.PrefixLemmas.{
   append-nil,
   prefix_itself,
@@ -26,7 +85,17 @@ use Rattle.raft_safety.proofs.lemmas.PrefixLemmas.{
 use Rattle.raft_safety.proofs.lemmas.RuleLemmas.{allowed_by_rules, passes}
 use Rattle.raft_safety.proofs.lemmas.ServerLemmas.{durable_now, had_now}
 use Rattle.raft_safety.proofs.lemmas.StepLemmas.{AreSteady, all_times_agree, execution_is_safe, step_keeps_facts}
-use Rattle.raft_safety.proofs.lemmas.TestLemmas.{or_cases, not_so, leader_right, leader_from, prefix_right, common_right, up_to_date_right, kept_right, durable_within}
+use Rattle.raft_safety.proofs.lemmas.TestLemmas.{
+  or_cases,
+  not_so,
+  leader_right,
+  leader_from,
+  prefix_right,
+  common_right,
+  up_to_date_right,
+  kept_right,
+  durable_within,
+}
 
 module _ {T ID D M : Type 0} (k : Tests T ID D M) (exact : AreExact k) (conf : ConfigTests T ID D M) where
   abbrev Events : Type 0
@@ -400,7 +469,8 @@ module _ {T ID D M : Type 0} (k : Tests T ID D M) (exact : AreExact k) (conf : C
         (may_campaign es c t (allowed_last k exact conf (Campaigned c t) es ok)) s (k.same_id c s) refl refl;
     leaders = λ u d.
         campaigns (history k es) (history k (Campaigned c t ∷ es)) t u c d (log_in k es c)
-        (no_votes k exact conf es c t (allowed_before k exact conf (Campaigned c t) es ok) (allowed_last k exact conf (Campaigned c t) es ok))
+        (no_votes k exact conf es c t (allowed_before k exact conf (Campaigned c t) es ok)
+        (allowed_last k exact conf (Campaigned c t) es ok))
         (same_leader k t c u d) refl refl refl;
     ranks = ranks_right (Campaigned c t ∷ es) ok ranks;
   }
