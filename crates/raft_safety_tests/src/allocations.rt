@@ -1,11 +1,10 @@
 //! The checker with each allocation refused in turn, or all of them.
 
-use crate::merged::first_events;
-use crate::recorded::{
-    Recorded, acked, appended, applied, campaigned, committed, granted, restarted, three, wrote,
-};
+use crate::merged::{TWO_LISTS, lists_of};
+use crate::recorded::{Checked, Recorded, events_of, record_all, three};
 use raft_safety::check::check;
 use raft_safety::checker::{Checker, LearnError, Violation};
+use raft_safety::event::Event;
 use raft_safety::memberships::Memberships;
 use raft_safety::merge::check_each;
 use raft_testing::allocations::{Allocation, is_free_on, is_swept};
@@ -14,11 +13,8 @@ use std::alloc::{AllocError, Global};
 use std::io;
 use std::test::Fail;
 
-/// A checker of recorded events.
-type Checked = Checker<u64, u64, u64, Memberships<u64, u64>>;
-
-/// The events of `history` that allocate, by their positions.
-const EVENTS: [(&str, usize); 8] = [
+/// The calls that allocate. A record is one of an event of `HISTORY`, at this position.
+const CALLS: [(&str, usize); 11] = [
     ("Checker::record, Restarted", 0),
     ("Checker::record, Campaigned", 1),
     ("Checker::record, Granted", 2),
@@ -27,45 +23,32 @@ const EVENTS: [(&str, usize); 8] = [
     ("Checker::record, Acked", 6),
     ("Checker::record, Committed", 9),
     ("Checker::record, a later Campaigned", 10),
+    ("Checker::learn", 0),
+    ("check", 0),
+    ("check_each", 0),
 ];
 
-/// The position of the last event of `history`, which does not allocate.
+/// The position of the last event of `HISTORY`, which does not allocate.
 const LAST: usize = 11;
 
 /// Server 3 restarts. Server 0 is elected in term 1 by server 1. Servers 2, 0 and 1 take its entry,
 /// which it commits. Server 2 campaigns in term 2. Server 0 applies the entry.
+const HISTORY: &str = "restarted 3 0; campaigned 0 1; granted 1 1 0; wrote 0 1 1.10; \
+    appended 2 1 0 0 1.10; appended 0 1 0 0 1.10; acked 0 1 0 1; appended 1 1 0 0 1.10; \
+    acked 1 1 0 1; committed 0 1 1 1; campaigned 2 2; applied 0 1 0 1;";
+
+/// Returns the events of `HISTORY`.
 fn history(alloc: Global) -> Result<Vec<Recorded>, AllocError> {
-    let own = both(
-        appended(alloc, (0, 1, 0), 0, (1, 10)),
-        appended(alloc, (1, 1, 0), 0, (1, 10)),
-    );
-    let (first, (taken, shared)) = both(appended(alloc, (2, 1, 0), 0, (1, 10)), own)?;
-    Ok(vec![in alloc;
-        restarted(3, 0),
-        campaigned(0, 1),
-        granted(1, 1, 0),
-        wrote(0, 1, (1, 10)),
-        first,
-        taken,
-        acked(0, 1, 0, 1),
-        shared,
-        acked(1, 1, 0, 1),
-        committed(0, 1, 1, 1),
-        campaigned(2, 2),
-        applied(0, 1, 0, 1),
-    ]?)
+    events_of(alloc, &[HISTORY])
 }
 
 /// Records events, and returns whether all are allowed.
 fn records(checker: &mut Checked, events: &[Recorded]) -> Result<bool, AllocError> {
-    for event in events {
-        match checker.record(event) {
-            Ok(()) => {}
-            Err(Violation::OutOfMemory) => return Err(AllocError),
-            Err(Violation::Rule(_)) => return Ok(false),
-        }
+    match record_all(checker, events) {
+        Ok(()) => Ok(true),
+        Err((_, Violation::OutOfMemory)) => Err(AllocError),
+        Err((_, Violation::Rule(_))) => Ok(false),
     }
-    Ok(true)
 }
 
 /// A checker that has recorded these events.
@@ -80,7 +63,7 @@ fn checked(alloc: Global, events: &[Recorded]) -> Result<Checked, AllocError> {
     }
 }
 
-/// Records the event of `history` at a position after those before it, with an allocation refused.
+/// Records the event of `HISTORY` at a position after those before it, with an allocation refused.
 /// If memory was out, the checker has to take this event and all later ones afterwards.
 fn record(allocation: Allocation, position: usize) -> Result<bool, AllocError> {
     let events = history(allocation.alloc)?;
@@ -112,11 +95,11 @@ fn is_allowed(allocation: Allocation, refused: Option<Violation>) -> Result<bool
     }
 }
 
-/// Checks all of `history`, or lists of events of a leader and of a follower, with an allocation
+/// Checks all of `HISTORY`, or lists of events of a leader and of a follower, with an allocation
 /// refused.
 fn check_all(allocation: Allocation, has_lists: bool) -> Result<bool, AllocError> {
     let alloc = allocation.alloc;
-    let (events, lists) = both(history(alloc), first_events(alloc, 4, 6))?;
+    let (events, lists) = both(history(alloc), lists_of(alloc, TWO_LISTS))?;
     let configs = three(alloc)?;
     allocation.refuse();
     let refused = if has_lists {
@@ -131,7 +114,7 @@ fn check_all(allocation: Allocation, has_lists: bool) -> Result<bool, AllocError
     is_allowed(allocation, refused)
 }
 
-/// Learns of a membership after the events of `history`, with an allocation refused. If memory was
+/// Learns of a membership after the events of `HISTORY`, with an allocation refused. If memory was
 /// out, the checker has to learn of it afterwards.
 fn learn(allocation: Allocation) -> Result<bool, AllocError> {
     let alloc = allocation.alloc;
@@ -147,19 +130,22 @@ fn learn(allocation: Allocation) -> Result<bool, AllocError> {
     }
 }
 
+/// Makes a call with an allocation refused.
+fn call(allocation: Allocation, name: &str, position: usize) -> Result<bool, AllocError> {
+    match name {
+        "Checker::learn" => learn(allocation),
+        "check" => check_all(allocation, false),
+        "check_each" => check_all(allocation, true),
+        _ => record(allocation, position),
+    }
+}
+
 /// Whether the calls of the checker are right with each allocation refused in turn.
 fn is_checker_swept(rt: &impl Print, alloc: Global) -> io::Result<bool> {
-    let nothing = |_alloc: Global| Ok(());
     let mut is_right = true;
-    for (name, position) in EVENTS {
-        let records = |allocation: Allocation, _nothing: &mut ()| record(allocation, position);
-        is_right &= is_swept(rt, alloc, name, nothing, records)?;
-    }
-    let learns = |allocation: Allocation, _nothing: &mut ()| learn(allocation);
-    is_right &= is_swept(rt, alloc, "Checker::learn", nothing, learns)?;
-    for (name, has_lists) in [("check", false), ("check_each", true)] {
-        let checks = |allocation: Allocation, _nothing: &mut ()| check_all(allocation, has_lists);
-        is_right &= is_swept(rt, alloc, name, nothing, checks)?;
+    for (name, position) in CALLS {
+        let calls = |allocation: Allocation, _nothing: &mut ()| call(allocation, name, position);
+        is_right &= is_swept(rt, alloc, name, |_alloc| Ok(()), calls)?;
     }
     Ok(is_right)
 }
@@ -170,7 +156,7 @@ fn allocations_of_the_checker(rt: HostRuntime) -> Result<(), Fail> {
     Ok(())
 }
 
-/// Memberships for a new checker, and a checker that has recorded all of `history` but the last
+/// Memberships for a new checker, and a checker that has recorded all of `HISTORY` but the last
 /// event.
 type Held = (Option<Memberships<u64, u64>>, Checked);
 
@@ -188,7 +174,13 @@ fn is_new_and_applies(alloc: Global, held: &mut Held) -> bool {
         Some(configs) => Checker::<u64, u64, u64, _>::new(alloc, configs).is_ok(),
         None => false,
     };
-    is_new && held.1.record(&applied(0, 1, 0, 1)) == Ok(())
+    let event = Event::Applied {
+        server: 0,
+        term: 1,
+        leader: 0,
+        len: 1,
+    };
+    is_new && held.1.record(&event) == Ok(())
 }
 
 #[test]

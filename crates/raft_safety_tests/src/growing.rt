@@ -1,107 +1,101 @@
 //! A checker that learns of memberships while a cluster grows.
 
-use crate::recorded::{Recorded, acked, campaigned, committed, granted, wrote};
-use raft_safety::checker::{Checker, LearnError, Violation};
-use raft_safety::entry::Entry;
-use raft_safety::event::Event;
+use crate::recorded::{Checked, events_of, is_rule, record_all};
+use raft_safety::checker::Checker;
 use raft_safety::memberships::Memberships;
-use raft_safety::rule::Rule;
+use raft_testing::printing::debugs;
+use raft_testing::words::{lists, number, words};
 use std::alloc::{AllocError, Global};
 use std::test::Fail;
 
-/// A checker that learns of memberships.
-type Growing = Checker<u64, u64, u64, Memberships<u64, u64>>;
+/// Rows of calls: the checker learns of the configs that entries of a content hold, or takes events.
+/// At the end of a row is `ok`, or what the call or the last event is refused for.
+///
+/// Server 0 leads in term 1. It commits an entry without a config, then one with the config of four
+/// servers, and then one with the config of five. Each is acknowledged by 0, 1 and one other server.
+/// Servers 2, 3 and 4 are a majority of the five servers, and servers 3 and 4 are none. Two more
+/// servers become known, but no leader may add both at once.
+const ROWS: &str = "\
+campaigned 0 1; granted 1 1 0; wrote 0 1 1.10; appended 0 1 0 0 1.10; acked 0 1 0 1; \
+    appended 1 1 0 0 1.10; acked 1 1 0 1; committed 0 1 1 1 = ok
+learn 103 0,1,2,3 = ok
+wrote 0 1 1.103; appended 0 1 0 1 1.103; acked 0 1 0 2; appended 1 1 0 0 1.10,1.103; \
+    acked 1 1 0 2; appended 3 1 0 0 1.10,1.103; acked 3 1 0 2; committed 0 1 2 2 = ok
+learn 104 0,1,2,3,4 = ok
+wrote 0 1 1.104; appended 0 1 0 2 1.104; acked 0 1 0 3; appended 1 1 0 2 1.104; acked 1 1 0 3; \
+    appended 4 1 0 0 1.10,1.103,1.104; acked 4 1 0 3; committed 0 1 3 3 = ok
+campaigned 4 2; granted 3 2 4; wrote 4 2 2.11 = NotElected
+granted 2 2 4; wrote 4 2 2.11 = ok
+learn 103 none = Known
+learn 10 none = Recorded
+learn 105 0,1,2,3,4,5,6 = ok
+wrote 0 1 1.105 = ApartConfigs";
 
-/// The entries of server 0, which leads in term 1: the content of each, the number of servers of its
-/// config, and a server that acknowledges it beside 0 and 1. Content 10 holds no config. Each of the
-/// others holds the config of one server more, which the last number names.
-const STEPS: [(u64, u64, u64); 3] = [(10, 3, 1), (103, 4, 3), (104, 5, 4)];
-
-/// Returns a checker of servers 0, 1 and 2, which knows of no other membership. Server 0 leads in
-/// term 1.
-fn three_servers(alloc: Global) -> Result<Growing, Fail> {
-    let initial = vec![in alloc; (0..3).collect(alloc)?]?;
-    let held = Vec::new(alloc);
-    let mut checker = Checker::new(alloc, Memberships { initial, held })?;
-    checker.record(&campaigned(0, 1))?;
-    checker.record(&granted(1, 1, 0))?;
-    Ok(checker)
+/// Returns a checker of servers 0, 1 and 2, which knows of no other membership.
+fn three_servers(alloc: Global) -> Result<Checked, AllocError> {
+    let configs = Memberships {
+        initial: lists(alloc, "0,1,2")?,
+        held: Vec::new(alloc),
+    };
+    Checker::new(alloc, configs).map_err(|_| AllocError)
 }
 
-/// Returns the event that a server takes the first entries of server 0.
-fn taken(alloc: Global, server: u64, len: usize) -> Result<Recorded, AllocError> {
-    let mut entries = Vec::new(alloc);
-    for step in STEPS.iter().take(len) {
-        entries.push(Entry {
-            term: 1,
-            content: step.0,
-        })?;
-    }
-    Ok(Event::Appended {
-        server,
-        term: 1,
-        leader: 0,
-        keep: 0,
-        entries,
-    })
-}
-
-/// Server 0 writes and commits an entry, with which its log has this length. If the entry holds a
-/// config, the config becomes known before.
-fn grow(
+/// Whether the checker learns of the membership of a row, or refuses it as expected.
+fn learns(
     alloc: Global,
-    checker: &mut Growing,
-    len: usize,
-    step: (u64, u64, u64),
-) -> Result<(), Fail> {
-    let (content, count, other) = step;
-    if count > 3 {
-        let configs = vec![in alloc; (0..count).collect(alloc)?]?;
-        checker.learn(content, configs)?;
+    checker: &mut Checked,
+    text: &str,
+    expected: &str,
+) -> Result<bool, AllocError> {
+    let words = words(text);
+    let configs = lists(alloc, words[2])?;
+    match checker.learn(number(words[1]), configs) {
+        Ok(()) => Ok(expected == "ok"),
+        Err(error) => Ok(debugs(alloc, &error, expected)),
     }
-    checker.record(&wrote(0, 1, (1, content)))?;
-    for server in [0, 1, other] {
-        checker.record(&taken(alloc, server, len)?)?;
-        checker.record(&acked(server, 1, 0, len))?;
-    }
-    checker.record(&committed(0, 1, len, len))?;
-    Ok(())
 }
 
-/// Returns a checker of a cluster that has grown from three servers to five, one by one.
-fn five_servers(alloc: Global) -> Result<Growing, Fail> {
+/// Whether the checker takes the events of a row, or refuses the last one as expected.
+fn records(
+    alloc: Global,
+    checker: &mut Checked,
+    text: &str,
+    expected: &str,
+) -> Result<bool, AllocError> {
+    let events = events_of(alloc, &[text])?;
+    match record_all(checker, &events) {
+        Ok(()) => Ok(expected == "ok"),
+        Err((i, violation)) => {
+            Ok(i.saturating_add(1) == events.len() && is_rule(alloc, violation, expected))
+        }
+    }
+}
+
+/// Returns the first row of which the answer is wrong.
+fn wrong_row(alloc: Global, checker: &mut Checked) -> Result<Option<&'static str>, AllocError> {
+    for row in ROWS.lines() {
+        let (text, expected) = row.split_once(" = ").unwrap_or((row, ""));
+        let is_right = if text.starts_with("learn") {
+            learns(alloc, checker, text, expected)?
+        } else {
+            records(alloc, checker, text, expected)?
+        };
+        if !is_right {
+            return Ok(Some(row));
+        }
+    }
+    Ok(None)
+}
+
+/// Returns the first row of which the answer of a new checker is wrong.
+fn wrong_answer(alloc: Global) -> Result<Option<&'static str>, AllocError> {
     let mut checker = three_servers(alloc)?;
-    for (i, step) in STEPS.iter().enumerate() {
-        grow(alloc, &mut checker, i.saturating_add(1), *step)?;
-    }
-    Ok(checker)
+    wrong_row(alloc, &mut checker)
 }
 
-/// Servers 2, 3 and 4 are a majority of the five servers, and servers 3 and 4 are none.
 #[test]
 fn a_cluster_grows_from_three_servers_to_five(rt: HostRuntime) -> Result<(), Fail> {
-    let mut checker = five_servers(rt.alloc())?;
-    checker.record(&campaigned(4, 2))?;
-    checker.record(&granted(3, 2, 4))?;
-    let early = checker.record(&wrote(4, 2, (2, 11)));
-    assert!(rt; early == Err(Violation::Rule(Rule::NotElected)));
-    checker.record(&granted(2, 2, 4))?;
-    checker.record(&wrote(4, 2, (2, 11)))?;
-    Ok(())
-}
-
-/// A known membership and a content that was recorded are refused. Two more servers become known,
-/// but no leader may add both at once.
-#[test]
-fn refuses_what_it_cannot_learn(rt: HostRuntime) -> Result<(), Fail> {
-    let alloc = rt.alloc();
-    let mut checker = five_servers(alloc)?;
-    let known = checker.learn(103, Vec::new(alloc));
-    assert!(rt; known == Err(LearnError::Known));
-    let recorded = checker.learn(10, Vec::new(alloc));
-    assert!(rt; recorded == Err(LearnError::Recorded));
-    checker.learn(105, vec![in alloc; (0..7).collect(alloc)?]?)?;
-    let apart = checker.record(&wrote(0, 1, (1, 105)));
-    assert!(rt; apart == Err(Violation::Rule(Rule::ApartConfigs)));
+    let wrong = wrong_answer(rt.alloc())?;
+    assert!(rt; wrong.is_none(), "{}", wrong.unwrap_or(""));
     Ok(())
 }

@@ -1,115 +1,143 @@
-//! Recorded events, and the memberships that they speak of.
+//! Recorded events as rows of words, and the memberships that they speak of.
 
+use raft_safety::checker::{Checker, Violation};
 use raft_safety::entry::Entry;
 use raft_safety::event::Event;
 use raft_safety::memberships::Memberships;
+use raft_testing::memory::both;
+use raft_testing::printing::debugs;
+use raft_testing::words::{lists, number, words};
 use std::alloc::{AllocError, Global};
 
 pub type Recorded = Event<u64, u64, u64>;
 
-pub fn campaigned(server: u64, term: u64) -> Recorded {
-    Event::Campaigned { server, term }
-}
+/// A checker of recorded events.
+pub type Checked = Checker<u64, u64, u64, Memberships<u64, u64>>;
 
-pub fn granted(server: u64, term: u64, candidate: u64) -> Recorded {
-    Event::Granted {
-        server,
-        term,
-        candidate,
+/// The contents that hold a membership in `three`, each with its configs.
+const HELD: [(u64, &str); 4] = [
+    (100, "0,1,2/2,3,4"),
+    (101, "2,3,4"),
+    (102, "0,1,2,3"),
+    (103, "0,1,2,3,4"),
+];
+
+/// Returns the entry of a word, `TERM.CONTENT`.
+fn entry(word: &str) -> Entry<u64, u64> {
+    let (term, content) = word.split_once('.').unwrap_or((word, ""));
+    Entry {
+        term: number(term),
+        content: number(content),
     }
 }
 
-pub fn acked(server: u64, term: u64, leader: u64, len: usize) -> Recorded {
-    Event::Acked {
-        server,
-        term,
-        leader,
-        len,
+/// Returns the entries of a word, each of which ends with a comma.
+fn entries(alloc: Global, word: &str) -> Result<Vec<Entry<u64, u64>>, AllocError> {
+    let mut entries = Vec::new(alloc);
+    for word in word.split_terminator(',') {
+        entries.extend(Some(entry(word)))?;
+    }
+    Ok(entries)
+}
+
+/// Returns the event of a row: its name, and the values of its fields in their order.
+fn event_of(alloc: Global, row: &str) -> Result<Recorded, AllocError> {
+    let row = words(row);
+    let ids = [number(row[1]), number(row[2]), number(row[3])];
+    let lens = [number(row[3]) as usize, number(row[4]) as usize];
+    match row[0] {
+        "campaigned" => Ok(Event::Campaigned {
+            server: ids[0],
+            term: ids[1],
+        }),
+        "granted" => Ok(Event::Granted {
+            server: ids[0],
+            term: ids[1],
+            candidate: ids[2],
+        }),
+        "appended" => Ok(Event::Appended {
+            server: ids[0],
+            term: ids[1],
+            leader: ids[2],
+            keep: lens[1],
+            entries: entries(alloc, row[5])?,
+        }),
+        "acked" => Ok(Event::Acked {
+            server: ids[0],
+            term: ids[1],
+            leader: ids[2],
+            len: lens[1],
+        }),
+        "restarted" => Ok(Event::Restarted {
+            server: ids[0],
+            len: ids[1] as usize,
+        }),
+        "wrote" => Ok(Event::Wrote {
+            leader: ids[0],
+            term: ids[1],
+            entry: entry(row[3]),
+        }),
+        "committed" => Ok(Event::Committed {
+            leader: ids[0],
+            term: ids[1],
+            len: lens[0],
+            counted_at: lens[1],
+        }),
+        "applied" => Ok(Event::Applied {
+            server: ids[0],
+            term: ids[1],
+            leader: ids[2],
+            len: lens[1],
+        }),
+        _ => Err(AllocError),
     }
 }
 
-pub fn restarted(server: u64, len: usize) -> Recorded {
-    Event::Restarted { server, len }
+/// Returns the events of texts, each after the other. A `;` ends each event.
+pub fn events_of(alloc: Global, texts: &[&str]) -> Result<Vec<Recorded>, AllocError> {
+    let mut events = Vec::new(alloc);
+    for text in texts {
+        for row in text.split_terminator(';') {
+            if !row.trim().is_empty() {
+                events.extend(Some(event_of(alloc, row)?))?;
+            }
+        }
+    }
+    Ok(events)
 }
 
-pub fn wrote(leader: u64, term: u64, entry: (u64, u64)) -> Recorded {
-    Event::Wrote {
-        leader,
-        term,
-        entry: Entry {
-            term: entry.0,
-            content: entry.1,
-        },
+/// Records events until one is refused, and returns how many events were allowed before it.
+pub fn record_all(checker: &mut Checked, events: &[Recorded]) -> Result<(), (usize, Violation)> {
+    for (i, event) in events.iter().enumerate() {
+        match checker.record(event) {
+            Ok(()) => {}
+            Err(violation) => return Err((i, violation)),
+        }
+    }
+    Ok(())
+}
+
+/// Whether the violation is one of the rule of this name.
+pub fn is_rule(alloc: Global, violation: Violation, name: &str) -> bool {
+    match violation {
+        Violation::Rule(rule) => debugs(alloc, &rule, name),
+        Violation::OutOfMemory => false,
     }
 }
 
-pub fn committed(leader: u64, term: u64, len: usize, counted_at: usize) -> Recorded {
-    Event::Committed {
-        leader,
-        term,
-        len,
-        counted_at,
+/// Returns the memberships of the contents of `HELD`.
+fn held(alloc: Global) -> Result<Vec<(u64, Vec<Vec<u64>>)>, AllocError> {
+    let mut held = Vec::new(alloc);
+    for (content, configs) in HELD {
+        held.extend(Some((content, lists(alloc, configs)?)))?;
     }
-}
-
-pub fn applied(server: u64, term: u64, leader: u64, len: usize) -> Recorded {
-    Event::Applied {
-        server,
-        term,
-        leader,
-        len,
-    }
-}
-
-/// A server keeps so many entries, and appends none.
-pub fn kept(alloc: Global, ids: (u64, u64, u64), keep: usize) -> Recorded {
-    let (server, term, leader) = ids;
-    Event::Appended {
-        server,
-        term,
-        leader,
-        keep,
-        entries: Vec::new(alloc),
-    }
-}
-
-/// A server keeps so many entries, and appends one.
-pub fn appended(
-    alloc: Global,
-    ids: (u64, u64, u64),
-    keep: usize,
-    entry: (u64, u64),
-) -> Result<Recorded, AllocError> {
-    let (server, term, leader) = ids;
-    let (entry_term, content) = entry;
-    Ok(Event::Appended {
-        server,
-        term,
-        leader,
-        keep,
-        entries: vec![in alloc;
-            Entry {
-                term: entry_term,
-                content,
-            },
-        ]?,
-    })
+    Ok(held)
 }
 
 /// Quorums of servers 0, 1 and 2; content 100 holds the joint membership with 2, 3 and 4, and
 /// content 101 the membership of these alone. Contents 102 and 103 hold the configs of servers 0 to
 /// 3 and of servers 0 to 4.
 pub fn three(alloc: Global) -> Result<Memberships<u64, u64>, AllocError> {
-    Ok(Memberships {
-        initial: vec![in alloc; vec![in alloc; 0, 1, 2]?]?,
-        held: vec![in alloc;
-            (
-                100,
-                vec![in alloc; vec![in alloc; 0, 1, 2]?, vec![in alloc; 2, 3, 4]?]?
-            ),
-            (101, vec![in alloc; vec![in alloc; 2, 3, 4]?]?),
-            (102, vec![in alloc; vec![in alloc; 0, 1, 2, 3]?]?),
-            (103, vec![in alloc; vec![in alloc; 0, 1, 2, 3, 4]?]?),
-        ]?,
-    })
+    let (initial, held) = both(lists(alloc, "0,1,2"), held(alloc))?;
+    Ok(Memberships { initial, held })
 }
