@@ -1,0 +1,3 @@
+pub mod InputLemmas
+pub mod FieldLemmas
+pub mod RunLemmas

@@ -1,0 +1,5 @@
+pub mod Input
+pub mod Fields
+pub mod Line
+pub mod Numbers
+pub mod Run

@@ -1,0 +1,182 @@
+//! The events of lines.
+ghost use Rattle.std.specs.Prelude.{ℕ, IfOk, IfSome};
+ghost use Rattle.raft_safety.specs.Checker.{event_of as trace_event};
+ghost use Rattle.serde_json.specs.View.{view};
+ghost use Rattle.raft_trace.specs.Line.{IsTaken, Says};
+
+use crate::field::{entries, event_name, is_named, len, number};
+use raft_safety::entry::Entry;
+use raft_safety::event::Event;
+use serde_json::Value;
+use std::alloc::{AllocError, Global};
+
+/// An event of a trace.
+pub type Act = Event<u64, u64, u64>;
+
+/// Returns the event that a line says. `first` is the index of the first entry, and `committed_by` the
+/// greatest term of which a leader has committed entries, with this leader.
+pub fn event_of(
+    alloc: Global,
+    value: &Value,
+    first: u64,
+    committed_by: Option<(u64, u64)>,
+) -> Result<Option<Act>, AllocError>
+    ensures { IfOk result (λ o. IfSome o (λ e. Says first (view value.now) (trace_event e))) }
+{
+    if is_named(value, "appended") {
+        return appended(alloc, value, first);
+    }
+    Ok(match event_name(value).unwrap_or("") {
+        "campaigned" => campaigned(value),
+        "granted" => granted(value),
+        "acked" => acked(value, first),
+        "restarted" => restarted(value, first),
+        "wrote" => wrote(value),
+        "committed" => committed(value, first),
+        "applied" => applied(value, first, committed_by),
+        _ => None,
+    })
+}
+
+/// Returns the event that a server starts a campaign.
+fn campaigned(value: &Value) -> Option<Act>
+    ensures { IfSome result (λ e. (first : ℕ) → Says first (view value.now) (trace_event e)) }
+{
+    if !is_named(value, "campaigned") {
+        return None;
+    }
+    Some(Event::Campaigned {
+        server: number(value, "server")?,
+        term: number(value, "term")?,
+    })
+}
+
+/// Returns the event that a server grants its vote.
+fn granted(value: &Value) -> Option<Act>
+    ensures { IfSome result (λ e. (first : ℕ) → Says first (view value.now) (trace_event e)) }
+{
+    if !is_named(value, "granted") {
+        return None;
+    }
+    Some(Event::Granted {
+        server: number(value, "server")?,
+        term: number(value, "term")?,
+        candidate: number(value, "candidate")?,
+    })
+}
+
+/// Returns the event that a server takes entries. It keeps those up to the index `prev`.
+fn appended(alloc: Global, value: &Value, first: u64) -> Result<Option<Act>, AllocError>
+    ensures { IfOk result (λ o. IfSome o (λ e. Says first (view value.now) (trace_event e))) }
+{
+    let Some((server, term, leader, keep)) = taken(value, first) else {
+        return Ok(None);
+    };
+    match entries(alloc, value)? {
+        Some(entries) => Ok(Some(Event::Appended {
+            server,
+            term,
+            leader,
+            keep,
+            entries,
+        })),
+        None => Ok(None),
+    }
+}
+
+/// Returns the server that takes entries, the term, its leader, and how many entries are kept.
+fn taken(value: &Value, first: u64) -> Option<(u64, u64, u64, usize)>
+    ensures { IfSome result (λ t. IsTaken first (view value.now) t) }
+{
+    if !is_named(value, "appended") {
+        return None;
+    }
+    Some((
+        number(value, "server")?,
+        number(value, "term")?,
+        number(value, "leader")?,
+        len(value, "prev", first)?,
+    ))
+}
+
+/// Returns the event that a server acknowledges its entries up to an index.
+fn acked(value: &Value, first: u64) -> Option<Act>
+    ensures { IfSome result (λ e. Says first (view value.now) (trace_event e)) }
+{
+    if !is_named(value, "acked") {
+        return None;
+    }
+    Some(Event::Acked {
+        server: number(value, "server")?,
+        term: number(value, "term")?,
+        leader: number(value, "leader")?,
+        len: len(value, "index", first)?,
+    })
+}
+
+/// Returns the event that a server restarts, with its entries up to an index.
+fn restarted(value: &Value, first: u64) -> Option<Act>
+    ensures { IfSome result (λ e. Says first (view value.now) (trace_event e)) }
+{
+    if !is_named(value, "restarted") {
+        return None;
+    }
+    Some(Event::Restarted {
+        server: number(value, "server")?,
+        len: len(value, "index", first)?,
+    })
+}
+
+/// Returns the event that a leader writes an entry.
+fn wrote(value: &Value) -> Option<Act>
+    ensures { IfSome result (λ e. (first : ℕ) → Says first (view value.now) (trace_event e)) }
+{
+    // The members do not change yet, so a line with a config is no event.
+    if !is_named(value, "wrote") || value.get("voters").is_some() {
+        return None;
+    }
+    let term = number(value, "term")?;
+    Some(Event::Wrote {
+        leader: number(value, "leader")?,
+        term,
+        entry: Entry {
+            term,
+            content: number(value, "content")?,
+        },
+    })
+}
+
+/// Returns the event that a leader commits entries up to an index. The members do not change, so it
+/// does not matter by which of its entries the leader counted.
+fn committed(value: &Value, first: u64) -> Option<Act>
+    ensures { IfSome result (λ e. Says first (view value.now) (trace_event e)) }
+{
+    if !is_named(value, "committed") {
+        return None;
+    }
+    let len = len(value, "index", first)?;
+    Some(Event::Committed {
+        leader: number(value, "leader")?,
+        term: number(value, "term")?,
+        len,
+        counted_at: len,
+    })
+}
+
+/// Returns the event that a server applies entries up to an index. All that is committed is in the
+/// log of the leader with the greatest term that has committed entries, so the event names this
+/// leader. The judge refuses the event before if no leader has.
+fn applied(value: &Value, first: u64, committed_by: Option<(u64, u64)>) -> Option<Act>
+    ensures { IfSome result (λ e. Says first (view value.now) (trace_event e)) }
+{
+    if !is_named(value, "applied") {
+        return None;
+    }
+    let (term, leader) = committed_by.unwrap_or((0, 0));
+    Some(Event::Applied {
+        server: number(value, "server")?,
+        term,
+        leader,
+        len: len(value, "index", first)?,
+    })
+}

@@ -1,0 +1,140 @@
+//! The fields of a line.
+ghost use Rattle.std.specs.Prelude.{◌≡◌, Some, IfOk, IfSome, IsTrue, option_map};
+ghost use Rattle.serde_json.specs.Read.{read};
+ghost use Rattle.serde_json.specs.View.{items_view, view};
+ghost use Rattle.raft_trace.specs.Fields.{HasConfigs, HasEntries, IsConfig, IsEntry, IsFirst, IsLen, IsNamed, list_in, number_in};
+
+use raft_safety::entry::Entry;
+use serde_json::Value;
+use std::alloc::{AllocError, Global};
+use std::str;
+
+/// Returns the value of a line, if the line is JSON.
+pub fn value_of(alloc: Global, line: &[u8]) -> Result<Option<Value>, AllocError>
+    ensures { IfOk result (λ o. IfSome o (λ v. read line.now ≡ Some (view v))) }
+{
+    let Ok(text) = str::from_utf8(line) else {
+        return Ok(None);
+    };
+    match Value::from_str(alloc, text) {
+        Ok(value) => Ok(Some(value)),
+        Err(error) => {
+            if error.is_memory() {
+                Err(AllocError)
+            } else {
+                Ok(None)
+            }
+        }
+    }
+}
+
+/// Returns the name of an event.
+pub fn event_name(value: &Value) -> Option<&str> {
+    value.get("event").and_then(Value::as_str)
+}
+
+/// Whether the event has this name.
+pub fn is_named(value: &Value, name: &str) -> bool
+    ensures { IsTrue result → IsNamed name.now (view value.now) }
+{
+    match value.get("event").and_then(Value::as_str) {
+        Some(text) => text == name,
+        None => false,
+    }
+}
+
+/// Returns a field that is a number.
+pub fn number(value: &Value, name: &str) -> Option<u64>
+    ensures { result ≡ number_in name.now (view value.now) }
+{
+    value.get(name).and_then(Value::as_u64)
+}
+
+/// Returns the index of the first entry, 1 if the line does not say it.
+pub fn first_index(value: &Value) -> Option<u64>
+    ensures { IfSome result (λ first. IsFirst first (view value.now)) }
+{
+    match value.get("first") {
+        Some(first) => first.as_u64(),
+        None => Some(1),
+    }
+}
+
+/// Returns the length of a log whose last entry has the index that a field has. `first` is the index
+/// of the first entry.
+pub fn len(value: &Value, name: &str, first: u64) -> Option<usize>
+    ensures { IfSome result (λ n. IsLen name.now first n (view value.now)) }
+{
+    let index = number(value, name)?;
+    let end = index.checked_add(1)?;
+    let len = end.checked_sub(first)?;
+    Some(len as usize)
+}
+
+/// Returns a field that is a list.
+fn list<'a>(value: &'a Value, name: &str) -> Option<&'a Vec<Value>>
+    ensures { option_map (λ v. items_view v.now.items) result ≡ list_in name.now (view value.now) }
+{
+    value.get(name).and_then(Value::as_array)
+}
+
+/// Returns a list of voters.
+fn config(alloc: Global, value: &Value) -> Result<Option<Vec<u64>>, AllocError>
+    ensures { IfOk result (λ o. IfSome o (λ v. IsConfig (view value.now) v)) }
+{
+    let Some(list) = value.as_array() else {
+        return Ok(None);
+    };
+    let mut voters = Vec::new(alloc);
+    for item in list {
+        let Some(voter) = item.as_u64() else {
+            return Ok(None);
+        };
+        voters.push(voter)?;
+    }
+    Ok(Some(voters))
+}
+
+/// Returns the configs of a line, each a list of voters.
+pub fn configs(alloc: Global, value: &Value) -> Result<Option<Vec<Vec<u64>>>, AllocError>
+    ensures { IfOk result (λ o. IfSome o (λ v. HasConfigs (view value.now) v.items)) }
+{
+    let Some(list) = list(value, "voters") else {
+        return Ok(None);
+    };
+    let mut configs = Vec::new(alloc);
+    for item in list {
+        let Some(config) = config(alloc, item)? else {
+            return Ok(None);
+        };
+        configs.push(config)?;
+    }
+    Ok(Some(configs))
+}
+
+/// Returns an entry, which is a list of its term and its content.
+fn entry(value: &Value) -> Option<Entry<u64, u64>>
+    ensures { IfSome result (λ e. IsEntry (view value.now) e) }
+{
+    Some(Entry {
+        term: value.get(0).and_then(Value::as_u64)?,
+        content: value.get(1).and_then(Value::as_u64)?,
+    })
+}
+
+/// Returns the entries of a line.
+pub fn entries(alloc: Global, value: &Value) -> Result<Option<Vec<Entry<u64, u64>>>, AllocError>
+    ensures { IfOk result (λ o. IfSome o (λ v. HasEntries (view value.now) v.items)) }
+{
+    let Some(list) = list(value, "entries") else {
+        return Ok(None);
+    };
+    let mut entries = Vec::new(alloc);
+    for item in list {
+        let Some(entry) = entry(item) else {
+            return Ok(None);
+        };
+        entries.push(entry)?;
+    }
+    Ok(Some(entries))
+}

@@ -1,0 +1,151 @@
+//! Judges the lines of a recorded run.
+ghost use Rattle.std.specs.Prelude.{◌≡◌, IfOk, IfSome, IsTrue, OnOk};
+ghost use Rattle.raft_safety.specs.Checker.{event_of as trace_event};
+ghost use Rattle.raft_trace.specs.Numbers.{number_tests};
+ghost use Rattle.raft_trace.specs.Run.{IsSafeRun, IsStarted, Takes, TakesAll, TakesEvent};
+
+use crate::counts::Counts;
+use crate::event::{Act, event_of};
+use crate::fault::Fault;
+use crate::field::{configs, first_index, is_named, value_of};
+use crate::input::{open, read_line};
+use crate::text::{push_fault, push_safe};
+use raft_safety::checker::{Checker, Violation};
+use raft_safety::laws::traces_are_executions;
+use raft_safety::memberships::{Memberships, memberships_are_exact};
+use raft_safety::rule::Rule;
+use std::alloc::Global;
+use std::io::{self, BufRead, Read};
+
+/// Judges one line after the other.
+#[derive(Drop)]
+pub struct Judge {
+    /// The checker of the events so far.
+    pub checker: Checker<u64, u64, u64, Memberships<u64, u64>>,
+    /// The index of the first entry.
+    pub first: u64,
+    /// What is counted of the events so far.
+    pub counts: Counts,
+}
+
+/// Judges the lines of a reader, and writes the answer.
+///
+/// Returns the exit status: 0 if the run is safe, 1 if a line breaks a rule, 2 if a line is no event,
+/// and 3 after an error of the input, or if there is no memory for an event.
+pub fn run<R: Read + Drop>(alloc: Global, reader: R, answer: &mut String) -> u8
+    ensures { result ≡ 0 → IsSafeRun number_tests (R.remaining reader) }
+{
+    match judge_lines(alloc, reader, answer) {
+        Ok(status) => status,
+        Err(_) => 3,
+    }
+}
+
+/// Judges the lines of a reader, of which the first one says how the cluster starts.
+fn judge_lines<R: Read + Drop>(alloc: Global, reader: R, answer: &mut String) -> io::Result<u8>
+    ensures { IfOk result (λ status. status ≡ 0 → IsSafeRun number_tests (R.remaining reader)) }
+{
+    let mut input = open(alloc, reader)?;
+    let mut line = Vec::new(alloc);
+    let is_last = read_line(&mut input, &mut line)?;
+    traces_are_executions::<u64, u64, u64, Option<u64>>();
+    match start(alloc, &line) {
+        Ok(mut judge) => {
+            if is_last {
+                push_safe(answer, &judge.counts)?;
+                return Ok(0);
+            }
+            judge_rest(alloc, &mut input, &mut judge, answer)
+        }
+        Err(fault) => Ok(push_fault(alloc, answer, 1, &line, fault)?),
+    }
+}
+
+/// Judges the lines after the first one.
+fn judge_rest<B: BufRead>(
+    alloc: Global,
+    input: &mut B,
+    judge: &mut Judge,
+    answer: &mut String,
+) -> io::Result<u8>
+    ensures { IfOk result (λ status. status ≡ 0 →
+        TakesAll number_tests (B.remaining input.old) judge.old judge.new) }
+{
+    let mut line = Vec::new(alloc);
+    for number in 2..u64::MAX {
+        let is_last = read_line(input, &mut line)?;
+        match judge.take(alloc, &line) {
+            Ok(()) => {}
+            Err(fault) => return Ok(push_fault(alloc, answer, number, &line, fault)?),
+        }
+        if is_last {
+            push_safe(answer, &judge.counts)?;
+            return Ok(0);
+        }
+    }
+    Ok(3)
+}
+
+/// Returns the judge of a cluster that starts as the line says.
+fn start(alloc: Global, line: &[u8]) -> Result<Judge, Fault>
+    ensures { IfOk result (λ j. IsStarted number_tests line.now j) }
+{
+    let Some(value) = value_of(alloc, line)? else {
+        return Err(Fault::Malformed);
+    };
+    if !is_named(&value, "started") {
+        return Err(Fault::Malformed);
+    }
+    let Some(first) = first_index(&value) else {
+        return Err(Fault::Malformed);
+    };
+    let Some(initial) = configs(alloc, &value)? else {
+        return Err(Fault::Malformed);
+    };
+    let counts = Counts::new(alloc, &initial)?;
+    let held = Vec::new(alloc);
+    let memberships = Memberships { initial, held };
+    memberships_are_exact::<u64, u64, u64>(&memberships);
+    let checker = Checker::new(alloc, memberships)?;
+    Ok(Judge {
+        checker,
+        first,
+        counts,
+    })
+}
+
+impl Judge {
+    /// Takes the next line. An empty line says nothing, and a vote that a server sends again is left
+    /// out.
+    pub fn take(&mut self, alloc: Global, line: &[u8]) -> Result<(), Fault>
+        ensures { OnOk result (Takes number_tests line.now self.old self.new) }
+    {
+        if line.is_empty() {
+            return Ok(());
+        }
+        let Some(value) = value_of(alloc, line)? else {
+            return Err(Fault::Malformed);
+        };
+        let Some(event) = event_of(alloc, &value, self.first, self.counts.committed_by)? else {
+            return Err(Fault::Malformed);
+        };
+        self.take_event(&event)
+    }
+
+    /// Takes the next event.
+    fn take_event(&mut self, event: &Act) -> Result<(), Fault>
+        ensures { OnOk result
+            (TakesEvent number_tests (trace_event event.now) self.old self.new) }
+    {
+        if self.counts.has_vote(event) {
+            self.counts.left_out = self.counts.left_out.saturating_add(1);
+            return Ok(());
+        }
+        if self.counts.lacks_commit(event) {
+            return Err(Fault::from(Violation::Rule(Rule::NotCommitted)));
+        }
+        self.checker.record(event)?;
+        self.counts.note(event)?;
+        Ok(())
+    }
+}
