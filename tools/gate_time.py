@@ -34,6 +34,7 @@ BUDGETS = {
     "raft_safety": 650,
     "raft_refinement": 540,
     "raft_script": 680,
+    "raft_trace": 900,
     "cluster": 830,
     "raft_testing": 200,
     "first_example": 70,

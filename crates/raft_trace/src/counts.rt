@@ -57,10 +57,7 @@ impl Counts {
 
     /// Whether the event is that a server applies entries, before a leader has committed any.
     pub fn lacks_commit(&self, event: &Act) -> bool {
-        match event {
-            Event::Applied { .. } => self.committed_by.is_none(),
-            _ => false,
-        }
+        matches!(event, Event::Applied { .. }) && self.committed_by.is_none()
     }
 
     /// Counts an event.
