@@ -6,7 +6,7 @@ use crate::fault::Fault;
 use crate::server::Server;
 use crate::types::{Changes, Entry, Leader, SnapshotMeta, State, Vote, end};
 use raft_base::LogStateReader;
-use raft_handlers::{HandlerError, SnapshotChanges, Stored, restart_server};
+use raft_handlers::{HandlerError, RestartError, SnapshotChanges, Stored, restart_server};
 
 impl Server {
     /// Returns the place of an index on disk.
@@ -102,7 +102,7 @@ impl Server {
     }
 
     /// Returns the state that a server with this vote has after a restart.
-    fn restarted(&self, vote: Vote) -> Result<State, HandlerError> {
+    fn restarted(&self, vote: Vote) -> Result<State, RestartError> {
         let alloc = *self.disk.allocator();
         let stored = Stored {
             vote,

@@ -8,7 +8,7 @@ use crate::server::{Role, Server};
 use crate::types::{
     AppendEntries, ChangeMembers, Entry, InstallSnapshot, LogIdRange, Response, end,
 };
-use raft_handlers::{HandlerError, Outcome};
+use raft_handlers::{HandlerError, Outcome, ResponseError};
 use raft_progress::InflightOf;
 use std::alloc::AllocError;
 
@@ -73,7 +73,7 @@ impl Server {
             // A response that is late, comes twice or answers another leader is refused, and
             // changes nothing.
             let taken = leader.handle_response(&from, response);
-            if taken == Err(HandlerError::ForeignResponse) {
+            if taken == Err(ResponseError::Foreign) {
                 return Ok(());
             }
             // A heartbeat is answered after the request that was sent before it, or that one is

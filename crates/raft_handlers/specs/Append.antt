@@ -46,7 +46,7 @@ use Rattle.raft_handlers.specs.Entries.{
   RefusedUnless,
   TakeTests,
 }
-use Rattle.raft_handlers.specs.declared.error.HandlerError.{HandlerError}
+use Rattle.raft_handlers.specs.declared.error.AppendError.{AppendError}
 use Rattle.raft_handlers.specs.declared.message.AppendEntries.{AppendEntries}
 use Rattle.raft_handlers.specs.declared.message.Outcome.{Outcome}
 use Rattle.raft_handlers.specs.declared.message.Outcome.TheVariants.{Matches, Conflict, HigherVote}
@@ -343,7 +343,7 @@ IsLeftBy ord id_eq same prev es old new =
 -- log is as it was, and what is committed is as it was. The vote may have changed
 pub record Refused {K N I L C D : Type 0} (ord : OrdMembers C) (id_eq : K → K → Bool)
     (same : N → N → Bool) (tests : TakeTests) (prev : Option (LogIdOf C)) (es : List (EntryOf C K N D))
-    (refusal : HandlerError) (old new : RaftStateIn K N I L C) : Type 0 where
+    (refusal : AppendError) (old new : RaftStateIn K N I L C) : Type 0 where
   pub reason : RefusedUnless tests refusal
   pub kept : KeepsBelow ord.eq (replaced_since (full_log old.log_ids) (new_of ord.eq old es))
       (full_log old.log_ids) (full_log new.log_ids)
@@ -357,7 +357,7 @@ pub record Refused {K N I L C D : Type 0} (ord : OrdMembers C) (id_eq : K → K 
 
 -- a request to append entries was refused, or an allocation failed
 abbrev pub Refuses : {K N I L C D : Type 0} → OrdMembers C → (K → K → Bool) → (N → N → Bool)
-    → AppendEntries L C K N D → HandlerError → (old new : RaftStateIn K N I L C) → Type 0
+    → AppendEntries L C K N D → AppendError → (old new : RaftStateIn K N I L C) → Type 0
 Refuses ord id_eq same request refusal old new =
     Refused ord id_eq same
     (append_tests (purged_or_logged ord.eq old request.prev) ord.eq ord.cmp request.prev

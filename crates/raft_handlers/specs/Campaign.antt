@@ -1,5 +1,5 @@
 -- What a candidate knows, and what elects it.
-use Rattle.std.specs.Prelude.{◌≡◌, ◌≤◌, ◌+◌, ◌^◌, ◌⊎◌, ℕ, Bool, false, max, ◌&&◌, ◌||◌, not, nat_lt}
+use Rattle.std.specs.Prelude.{◌≡◌, ◌≤◌, ◌+◌, ◌^◌, ℕ, Bool, false, max, ◌&&◌, ◌||◌, not, nat_lt}
 use Rattle.std.specs.Prelude.{List, length, Option, Some, is_some, IsTrue}
 use Rattle.std.specs.Set.{is_member}
 use Rattle.std.specs.Option.{option_map_or}
@@ -20,9 +20,10 @@ use Rattle.raft_state.specs.membership_state.Memberships.{Memberships, in_effect
 use Rattle.raft_state.specs.raft_state.VoteAndLog.{vote_of}
 use Rattle.raft_state.specs.declared.raft_state.RaftStateIn.{RaftStateIn}
 use Rattle.raft_handlers.specs.Compared.{Compared}
-use Rattle.raft_handlers.specs.Entries.{IsFullLogRefusal}
-use Rattle.raft_handlers.specs.declared.error.HandlerError.{HandlerError}
-use Rattle.raft_handlers.specs.declared.error.HandlerError.TheVariants.{NoNextTerm, NotElected, NotLeader, NotVoter, OutOfMemory}
+use Rattle.raft_handlers.specs.declared.error.CampaignError.{CampaignError}
+use Rattle.raft_handlers.specs.declared.error.CampaignError.TheVariants.{NoNextTerm, NotVoter, OutOfMemory}
+use Rattle.raft_handlers.specs.declared.error.LeadError.{LeadError}
+use Rattle.raft_handlers.specs.declared.error.LeadError.TheVariants as lead
 use Rattle.raft_handlers.specs.declared.message.VoteResponse.{VoteResponse}
 
 -- the node that campaigns, its vote, its last log id, and who of the members has voted for it
@@ -101,17 +102,17 @@ pub record Campaigns {K N I L C : Type 0} (by : Compared K N L C) (id : K) (grea
 
 -- why a node does not campaign: it may not, there is no greater term, or an allocation failed
 abbrev pub IsCampaignRefusal : {K N C : Type 0} → (K → K → Bool) → K → ℕ → Memberships C K N
-    → HandlerError → Type 0
+    → CampaignError → Type 0
 IsCampaignRefusal eq id greatest m NotVoter = may_campaign eq id m ≡ false
 IsCampaignRefusal eq id greatest m NoNextTerm = 2 ^ 64 ≤ greatest + 1
 IsCampaignRefusal eq id greatest m OutOfMemory = Unit {0}
-IsCampaignRefusal eq id greatest m refusal = ⊥
 
--- why a candidate does not lead: no quorum has elected it, the state has another vote, or nothing can
--- follow its log
+-- why a candidate does not lead: no quorum has elected it, the state has another vote, no index is
+-- after its log, or an allocation failed
 abbrev pub IsElectionRefusal : {K N I L C : Type 0} → (K → K → Bool) → (L → L → Bool)
-    → Campaign K N L C → RaftStateIn K N I L C → HandlerError → Type 0
-IsElectionRefusal eq same c s e =
-    ((e ≡ NotElected) × (HasMajorities eq c → ⊥))
-    ⊎ ((e ≡ NotLeader) × (same_vote same (vote_of s) c.vote ≡ false))
-    ⊎ IsFullLogRefusal (end_index (full_log s.log_ids)) e
+    → Campaign K N L C → RaftStateIn K N I L C → LeadError → Type 0
+IsElectionRefusal eq same c s lead.NotElected = HasMajorities eq c → ⊥
+IsElectionRefusal eq same c s lead.NotLeader = same_vote same (vote_of s) c.vote ≡ false
+IsElectionRefusal eq same c s lead.NoNextIndex =
+    nat_lt (end_index (full_log s.log_ids)) (2 ^ 64) ≡ false
+IsElectionRefusal eq same c s lead.OutOfMemory = Unit {0}

@@ -31,14 +31,12 @@ use Rattle.std.specs.declared.cmp.Ordering.{Ordering}
 use Rattle.raft_base.specs.LogId.{id_le, id_lt, index_of, same_ids}
 use Rattle.raft_base.specs.LogIndex.{index_le, index_lt}
 use Rattle.raft_base.specs.declared.log_id.LogIdOf.{LogIdOf}
-use Rattle.raft_handlers.specs.declared.error.HandlerError.{HandlerError}
-use Rattle.raft_handlers.specs.declared.error.HandlerError.TheVariants.{
+use Rattle.raft_handlers.specs.declared.error.AppendError.{AppendError}
+use Rattle.raft_handlers.specs.declared.error.AppendError.TheVariants.{
   CommittedNotLogged,
   MembershipNotInOrder,
-  NoNextIndex,
   NotInOrder,
   OutOfMemory,
-  SnapshotDoesNotFit,
   TruncatesCommitted,
 }
 use Rattle.raft_members.specs.membership.Stored.{log_id_of}
@@ -159,15 +157,10 @@ abbrev pub allows_commit_past : {C : Type 0} → (C → C → Ordering) → Opti
 allows_commit_past cmp effective before id =
     if id_lt cmp before id then allows_commit cmp effective id else true
 
--- why nothing can follow a log that ends at this index: the index is no `u64`, or an allocation failed
-abbrev pub IsFullLogRefusal : ℕ → HandlerError → Type 0
-IsFullLogRefusal end e = ((e ≡ NoNextIndex) × (nat_lt end (2 ^ 64) ≡ false)) ⊎ (e ≡ OutOfMemory)
-
--- what a server tests before it takes a snapshot or entries: whether the snapshot fits, whether
--- nothing that is committed is truncated, whether the entries are in order, whether their memberships
--- are and allow the commit, and whether the log then has what is to be committed
+-- what a server tests before it takes entries: whether nothing that is committed is truncated, whether
+-- the entries are in order, whether their memberships are and allow the commit, and whether the log
+-- then has what is to be committed
 pub record TakeTests : Type 0 where
-  pub fits : Bool
   pub keeps : Bool
   pub order : Bool
   pub members : Bool
@@ -175,18 +168,15 @@ pub record TakeTests : Type 0 where
 
 -- all tests hold
 abbrev pub tests_hold : TakeTests
-tests_hold = record { fits = true; keeps = true; order = true; members = true; has = true }
+tests_hold = record { keeps = true; order = true; members = true; has = true }
 
--- an error comes only if its test does not hold. An allocation may fail at any time, and no other
--- error comes
-abbrev pub RefusedUnless : TakeTests → HandlerError → Type 0
-RefusedUnless t SnapshotDoesNotFit = t.fits ≡ false
+-- an error comes only if its test does not hold. An allocation may fail at any time
+abbrev pub RefusedUnless : TakeTests → AppendError → Type 0
 RefusedUnless t TruncatesCommitted = t.keeps ≡ false
 RefusedUnless t NotInOrder = t.order ≡ false
 RefusedUnless t MembershipNotInOrder = t.members ≡ false
 RefusedUnless t CommittedNotLogged = t.has ≡ false
 RefusedUnless t OutOfMemory = Unit {0}
-RefusedUnless t refusal = ⊥
 
 -- new entries truncate nothing that is committed
 abbrev pub keeps_committed : {K N I L C D : Type 0} → (C → C → Ordering) → List (EntryOf C K N D)

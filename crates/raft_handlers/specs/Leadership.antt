@@ -1,5 +1,5 @@
 -- What a leader knows of its members, and when it leads, commits and proposes.
-use Rattle.std.specs.Prelude.{◌≡◌, ◌↔◌, ℕ, Bool, true, false, ◌&&◌, ◌⊎◌, ◌^◌, not, nat_lt, Option, Some, None, is_some}
+use Rattle.std.specs.Prelude.{◌≡◌, ◌↔◌, ℕ, Bool, true, false, ◌&&◌, ◌^◌, not, nat_lt, Option, Some, None, is_some}
 use Rattle.std.specs.Prelude.{IsTrue, if◌then◌else◌}
 use Rattle.std.specs.Map.{update}
 use Rattle.std.specs.Option.{option_cmp, option_eq}
@@ -24,15 +24,12 @@ use Rattle.raft_progress.specs.declared.entry.ProgressEntryOf.{ProgressEntryOf}
 use Rattle.raft_progress.specs.declared.inflight.InflightOf.TheVariants.{None as Idle}
 use Rattle.raft_handlers.specs.Campaign.{Campaign, HasMajorities, may_campaign, same_vote}
 use Rattle.raft_handlers.specs.Compared.{Compared}
-use Rattle.raft_handlers.specs.Entries.{IsFullLogRefusal}
-use Rattle.raft_handlers.specs.declared.error.HandlerError.{HandlerError}
-use Rattle.raft_handlers.specs.declared.error.HandlerError.TheVariants.{
-  MembershipNotInOrder,
-  NoNextIndex,
-  NotLeader,
-  NotLogged,
-  OutOfMemory,
-}
+use Rattle.raft_handlers.specs.declared.error.ResumeError.{ResumeError}
+use Rattle.raft_handlers.specs.declared.error.ResumeError.TheVariants as resume
+use Rattle.raft_handlers.specs.declared.error.CommitError.{CommitError}
+use Rattle.raft_handlers.specs.declared.error.CommitError.TheVariants as commit
+use Rattle.raft_handlers.specs.declared.error.FlushError.{FlushError}
+use Rattle.raft_handlers.specs.declared.error.FlushError.TheVariants as flush
 use Rattle.raft_state.specs.raft_state.Commit.{state_after_commit, state_commits, state_may_commit}
 use Rattle.raft_state.specs.log_id_list.FullLog.{end_index, full_log}
 use Rattle.raft_state.specs.membership_state.Memberships.{Memberships}
@@ -167,11 +164,10 @@ flushed_entry upto = record {
 -- why a leader does not count what is on its disk up to a log id: it does not lead, no index is after
 -- the log id, or the log does not have it
 abbrev pub IsFlushRefusal : {K N I L C : Type 0} → Compared K N L C → Leadership K N C
-    → Option (LogIdOf C) → RaftStateIn K N I L C → HandlerError → Type 0
-IsFlushRefusal by l upto s NotLeader = is_leading by l s ≡ false
-IsFlushRefusal by l upto s NoNextIndex = nat_lt (next_index upto) (2 ^ 64) ≡ false
-IsFlushRefusal by l upto s NotLogged = none_or_logged by.eq (log_view_of s) upto ≡ false
-IsFlushRefusal by l upto s refusal = ⊥
+    → Option (LogIdOf C) → RaftStateIn K N I L C → FlushError → Type 0
+IsFlushRefusal by l upto s flush.NotLeader = is_leading by l s ≡ false
+IsFlushRefusal by l upto s flush.NoNextIndex = nat_lt (next_index upto) (2 ^ 64) ≡ false
+IsFlushRefusal by l upto s flush.NotLogged = none_or_logged by.eq (log_view_of s) upto ≡ false
 
 -- a commit is due: a quorum has an entry of the leader's own that is not committed yet
 abbrev pub is_commit_due : {K N I L C : Type 0} → OrdMembers C → Leadership K N C
@@ -192,23 +188,23 @@ pub record Commits {K N I L C : Type 0} (eq : K → K → Bool) (by : OrdMembers
 -- why the commit of what is granted is refused: the log does not have it, the memberships are not in
 -- the order of the log, or an allocation failed, which only the commit of a membership makes
 abbrev pub IsCommitRefusal : {K N I L C : Type 0} → OrdMembers C → Option (LogIdOf C)
-    → RaftStateIn K N I L C → HandlerError → Type 0
-IsCommitRefusal by granted s NotLogged = none_or_logged by.eq (log_view_of s) granted ≡ false
-IsCommitRefusal by granted s MembershipNotInOrder = state_may_commit by.cmp granted s ≡ false
-IsCommitRefusal by granted s OutOfMemory = state_commits by.cmp granted s ≡ true
-IsCommitRefusal by granted s refusal = ⊥
+    → RaftStateIn K N I L C → CommitError → Type 0
+IsCommitRefusal by granted s commit.NotLogged = none_or_logged by.eq (log_view_of s) granted ≡ false
+IsCommitRefusal by granted s commit.MembershipNotInOrder = state_may_commit by.cmp granted s ≡ false
+IsCommitRefusal by granted s commit.OutOfMemory = state_commits by.cmp granted s ≡ true
 
 -- a commit that is due is refused, and the state is as it was
 pub record RefusesCommit {K N I L C : Type 0} (by : OrdMembers C) (leader : Leadership K N C)
-    (old new : RaftStateIn K N I L C) (e : HandlerError) : Type 0 where
+    (old new : RaftStateIn K N I L C) (e : CommitError) : Type 0 where
   pub due : IsTrue (is_commit_due by leader old)
   pub refused : IsCommitRefusal by (granted_by leader) old e
   pub err : new ≡ old
 
--- why a node does not lead on: the vote is not committed or not for it, or nothing can follow its log
+-- why a node does not lead on: the vote is not committed or not for it, no index is after its log, or
+-- an allocation failed
 abbrev pub IsResumeRefusal : {K N I L C : Type 0} → Compared K N L C → K → RaftStateIn K N I L C
-    → HandlerError → Type 0
-IsResumeRefusal by id s e =
-    ((e ≡ NotLeader) × (((vote_of s).committed
-    && option_eq by.id_eq (by.voted (vote_of s).leader_id) (Some id)) ≡ false))
-    ⊎ IsFullLogRefusal (end_index (full_log s.log_ids)) e
+    → ResumeError → Type 0
+IsResumeRefusal by id s resume.NotLeader =
+    ((vote_of s).committed && option_eq by.id_eq (by.voted (vote_of s).leader_id) (Some id)) ≡ false
+IsResumeRefusal by id s resume.NoNextIndex = nat_lt (end_index (full_log s.log_ids)) (2 ^ 64) ≡ false
+IsResumeRefusal by id s resume.OutOfMemory = Unit {0}

@@ -4,8 +4,8 @@ use Rattle.std.specs.declared.cmp.Ordering.{Ordering}
 use Rattle.raft_base.specs.declared.log_id.LogIdOf.{LogIdOf}
 use Rattle.raft_handlers.specs.Compared.{Compared}
 use Rattle.raft_handlers.specs.Leadership.{Leadership, is_leading}
-use Rattle.raft_handlers.specs.declared.error.HandlerError.{HandlerError}
-use Rattle.raft_handlers.specs.declared.error.HandlerError.TheVariants.{NoNextIndex, NotInOrder, NotLeader, OutOfMemory}
+use Rattle.raft_handlers.specs.declared.error.ProposeError.{ProposeError}
+use Rattle.raft_handlers.specs.declared.error.ProposeError.TheVariants.{NoNextIndex, NotInOrder, NotLeader, OutOfMemory}
 use Rattle.raft_state.specs.Accepted.{after_accept}
 use Rattle.raft_state.specs.log_id_list.FullLog.{end_index, full_log, same_log}
 use Rattle.raft_members.specs.membership.Members.{MemberList}
@@ -40,14 +40,13 @@ AppendsPayload {K} {N} {C} eq same id (Some m) old new =
 -- why an entry of a leader's own is refused: the leader does not lead, which is given; no index is
 -- after the log's end; the entry may not be appended; or an allocation failed
 abbrev pub IsProposalRefusal : {K N I L C D : Type 0} → (C → C → Ordering) → (leads : Bool)
-    → EntryOf C K N D → RaftStateIn K N I L C → HandlerError → Type 0
+    → EntryOf C K N D → RaftStateIn K N I L C → ProposeError → Type 0
 IsProposalRefusal cmp leads entry s NotLeader = leads ≡ false
 IsProposalRefusal cmp leads entry s NoNextIndex =
     nat_lt (end_index (full_log s.log_ids)) (2 ^ 64) ≡ false
 IsProposalRefusal cmp leads entry s NotInOrder =
     may_append_entries cmp (λ e. e.log_id) (λ e. payload_membership e.payload) (entry ∷ []) s ≡ false
 IsProposalRefusal cmp leads entry s OutOfMemory = Unit {0}
-IsProposalRefusal cmp leads entry s refusal = ⊥
 
 module _ {K N I L C : Type 0} (by : Compared K N L C) where
   -- an entry of the leader's own is appended: the leader leads, the entry has the payload under the
@@ -71,13 +70,13 @@ module _ {K N I L C : Type 0} (by : Compared K N L C) where
 
   -- why the leader's next entry is refused with this payload
   abbrev pub IsOwnRefusal : {D : Type 0} → Leadership K N C → EntryPayload K N D
-      → RaftStateIn K N I L C → HandlerError → Type 0
+      → RaftStateIn K N I L C → ProposeError → Type 0
   IsOwnRefusal leader payload old e =
       IsProposalRefusal by.cmp (is_leading by leader old && may_accept by.order old)
       (record { log_id = next_own_id leader.leader_id old; payload = payload }) old e
 
   -- an entry of the leader's own is refused, and the state is as it was
   pub record RefusesOwn {D : Type 0} (leader : Leadership K N C) (payload : EntryPayload K N D)
-      (old new : RaftStateIn K N I L C) (e : HandlerError) : Type 0 where
+      (old new : RaftStateIn K N I L C) (e : ProposeError) : Type 0 where
     pub refused : IsOwnRefusal leader payload old e
     pub err : new ≡ old

@@ -35,8 +35,8 @@ use Rattle.raft_progress.specs.declared.inflight.InflightOf.{InflightOf}
 use Rattle.raft_progress.specs.declared.inflight.InflightOf.TheVariants.{None as Idle}
 use Rattle.raft_state.specs.raft_state.Sending.{FromLog}
 use Rattle.raft_handlers.specs.Leadership.{Leadership, WritesEntry, WritesMember, entry_of}
-use Rattle.raft_handlers.specs.declared.error.HandlerError.{HandlerError}
-use Rattle.raft_handlers.specs.declared.error.HandlerError.TheVariants.{ForeignResponse, HigherVote, ResponseRefused, UnknownMember}
+use Rattle.raft_handlers.specs.declared.error.ResponseError.{ResponseError}
+use Rattle.raft_handlers.specs.declared.error.ResponseError.TheVariants.{Foreign, HigherVote, Inflight, UnknownMember}
 use Rattle.raft_handlers.specs.declared.message.Outcome.{Outcome}
 use Rattle.raft_handlers.specs.declared.message.Outcome.TheVariants.{Matches, Conflict, HigherVote as RefusedFor}
 use Rattle.raft_handlers.specs.declared.message.Response.{Response}
@@ -46,9 +46,9 @@ abbrev pub answers : {L K N C : Type 0} → (C → C → Bool) → Response L C 
 answers eq response leader = eq response.leader_id leader.leader_id
 
 -- a refusal of what is in flight as a refusal of the leader
-abbrev pub as_refused : {S : Type 0} → Result S InflightError → Result S HandlerError
+abbrev pub as_refused : {S : Type 0} → Result S InflightError → Result S ResponseError
 as_refused (Ok entry) = Ok entry
-as_refused (Err e) = Err (ResponseRefused e)
+as_refused (Err e) = Err (Inflight e)
 
 -- the index after the last one of a member's log, of which it gives the last index, if there is one
 abbrev pub end_after : (last : Option ℕ) → ℕ
@@ -72,7 +72,7 @@ after_conflict entry request index last =
 -- an acknowledgement of a request raises the match, a conflict lowers the end of the search, the
 -- response to a heartbeat that matches changes nothing, and that of a higher vote is refused
 abbrev pub after_outcome : {L C : Type 0} → (C → C → Ordering) → ProgressEntryOf C → Option ℕ
-    → Outcome L C → Result (ProgressEntryOf C) HandlerError
+    → Outcome L C → Result (ProgressEntryOf C) ResponseError
 after_outcome cmp entry (Some request) (Matches upto) =
     as_refused (entry_after_ack cmp entry request upto)
 after_outcome cmp entry None (Matches upto) = Ok entry
@@ -82,7 +82,7 @@ after_outcome cmp entry request (RefusedFor vote) = Err HigherVote
 
 -- what is known of a member after its response
 abbrev pub after_response : {L C : Type 0} → (C → C → Ordering) → ProgressEntryOf C → Response L C
-    → Result (ProgressEntryOf C) HandlerError
+    → Result (ProgressEntryOf C) ResponseError
 after_response cmp entry response = after_outcome cmp entry response.request response.outcome
 
 -- the greatest number of a request, once this is sent
@@ -121,8 +121,8 @@ module _ {K N C : Type 0} (eq : K → K → Bool) (by : OrdMembers C) where
   -- what a response does: one to another leader or of no member is refused; otherwise it is taken as the
   -- table of responses says, or refused; a refused response changes nothing
   pub record TakesResponse {L : Type 0} (from : K) (response : Response L C) (old new : Leadership K N C)
-      (result : Result (Unit {0}) HandlerError) : Type 0 where
-    pub foreign : answers by.eq response old ≡ false → result ≡ Err ForeignResponse
+      (result : Result (Unit {0}) ResponseError) : Type 0 where
+    pub foreign : answers by.eq response old ≡ false → result ≡ Err Foreign
     pub unknown : IsTrue (answers by.eq response old) → entry_of eq old from ≡ None
         → result ≡ Err UnknownMember
     pub ok : (entry next : ProgressEntryOf C) → IsTrue (answers by.eq response old)
@@ -131,7 +131,7 @@ module _ {K N C : Type 0} (eq : K → K → Bool) (by : OrdMembers C) where
     pub taken : (entry next : ProgressEntryOf C) → IsTrue (answers by.eq response old)
         → entry_of eq old from ≡ Some entry → after_response by.cmp entry response ≡ Ok next
         → WritesEntry eq old from next new
-    pub refused : (entry : ProgressEntryOf C) (e : HandlerError)
+    pub refused : (entry : ProgressEntryOf C) (e : ResponseError)
         → IsTrue (answers by.eq response old) → entry_of eq old from ≡ Some entry
         → after_response by.cmp entry response ≡ Err e → result ≡ Err e
     pub err : OnErr result (new ≡ old)

@@ -15,10 +15,19 @@ use Rattle.raft_handlers.specs.Entries.{
   has_committed_with,
   has_id,
   has_memberships_in_order,
-  RefusedUnless,
-  TakeTests,
 }
-use Rattle.raft_handlers.specs.declared.error.HandlerError.{HandlerError}
+use Rattle.raft_handlers.specs.declared.error.AppendError.{AppendError}
+use Rattle.raft_handlers.specs.declared.error.AppendError.TheVariants as append
+use Rattle.raft_handlers.specs.declared.error.RestartError.{RestartError}
+use Rattle.raft_handlers.specs.declared.error.RestartError.TheVariants.{
+  CommittedNotLogged,
+  MembershipNotInOrder,
+  NotInOrder,
+  OutOfMemory,
+  SnapshotDoesNotFit,
+}
+use Rattle.raft_handlers.specs.declared.error.SnapshotError.{SnapshotError}
+use Rattle.raft_handlers.specs.declared.error.SnapshotError.TheVariants as install
 use Rattle.raft_handlers.specs.declared.restart.Stored.{Stored}
 use Rattle.raft_members.specs.membership.Members.{same_members}
 use Rattle.raft_members.specs.membership.Stored.{log_id_of, membership_of}
@@ -152,23 +161,37 @@ pub record Restores {K N I L C D : Type 0} (ord : OrdMembers C) (id_eq : K → K
       (entries_past ord.eq meta.last_log_id stored) known m
       × CommitsKnown ord.eq ord.cmp (greatest ord.cmp meta.last_log_id known) m s
 
--- the tests of a restart: of the snapshot, and of entries that are past it
-abbrev pub restart_tests : {C K N D : Type 0} → (C → C → Bool) → (C → C → Ordering)
-    → SnapshotMetaOf C K N → List (EntryOf C K N D) → Option (LogIdOf C) → TakeTests
-restart_tests eq cmp meta past committed =
+-- why a restart is refused: the snapshot does not fit; the entries past it are not in order, or their
+-- memberships are not; the log does not have what is stored as committed; or an allocation failed
+abbrev pub IsRefusedWith : {C K N D : Type 0} → (C → C → Bool) → (C → C → Ordering)
+    → SnapshotMetaOf C K N → (past : List (EntryOf C K N D)) → Option (LogIdOf C) → RestartError
+    → Type 0
+IsRefusedWith eq cmp meta past committed SnapshotDoesNotFit =
+    snapshot_fits cmp meta.last_log_id meta.last_membership ≡ false
+IsRefusedWith eq cmp meta past committed NotInOrder = are_in_order cmp meta.last_log_id past ≡ false
+IsRefusedWith eq cmp meta past committed MembershipNotInOrder =
     let effective = snapshot_membership meta.last_log_id meta.last_membership in
-    record {
-      fits = snapshot_fits cmp meta.last_log_id meta.last_membership;
-      keeps = true;
-      order = are_in_order cmp meta.last_log_id past;
-      members = has_memberships_in_order cmp effective past
-          && allows_commit_past cmp (effective_with effective past) meta.last_log_id committed;
-      has = has_committed_with eq cmp (snapshot_ids meta.last_log_id) meta.last_log_id past committed;
-    }
+    (has_memberships_in_order cmp effective past
+    && allows_commit_past cmp (effective_with effective past) meta.last_log_id committed) ≡ false
+IsRefusedWith eq cmp meta past committed CommittedNotLogged =
+    has_committed_with eq cmp (snapshot_ids meta.last_log_id) meta.last_log_id past committed ≡ false
+IsRefusedWith eq cmp meta past committed OutOfMemory = Unit {0}
 
--- why a restart is refused: the snapshot does not fit, or the entries past it are not in order, or
--- their memberships, or the log does not have what is stored as committed
+-- of the stored entries those past the snapshot are taken
 abbrev pub IsRestartRefusal : {C K N D : Type 0} → (C → C → Bool) → (C → C → Ordering)
-    → SnapshotMetaOf C K N → List (EntryOf C K N D) → Option (LogIdOf C) → HandlerError → Type 0
+    → SnapshotMetaOf C K N → List (EntryOf C K N D) → Option (LogIdOf C) → RestartError → Type 0
 IsRestartRefusal eq cmp meta es committed refusal =
-    RefusedUnless (restart_tests eq cmp meta (entries_past eq meta.last_log_id es) committed) refusal
+    IsRefusedWith eq cmp meta (entries_past eq meta.last_log_id es) committed refusal
+
+-- the refusal of a snapshot as one of a restart
+abbrev pub refused_snapshot : SnapshotError → RestartError
+refused_snapshot install.DoesNotFit = SnapshotDoesNotFit
+refused_snapshot install.OutOfMemory = OutOfMemory
+
+-- the refusal of entries as one of a restart: entries past the snapshot truncate nothing
+abbrev pub refused_entries : AppendError → RestartError
+refused_entries append.NotInOrder = NotInOrder
+refused_entries append.TruncatesCommitted = NotInOrder
+refused_entries append.MembershipNotInOrder = MembershipNotInOrder
+refused_entries append.CommittedNotLogged = CommittedNotLogged
+refused_entries append.OutOfMemory = OutOfMemory

@@ -4,8 +4,8 @@ use Rattle.std.specs.declared.cmp.Ordering.{Ordering}
 use Rattle.raft_base.specs.LogId.{id_lt}
 use Rattle.raft_handlers.specs.Append.{greatest}
 use Rattle.raft_handlers.specs.Follow.{heard, is_followed}
-use Rattle.raft_handlers.specs.declared.error.HandlerError.{HandlerError}
-use Rattle.raft_handlers.specs.declared.error.HandlerError.TheVariants.{OutOfMemory, SnapshotDoesNotFit}
+use Rattle.raft_handlers.specs.declared.error.SnapshotError.{SnapshotError}
+use Rattle.raft_handlers.specs.declared.error.SnapshotError.TheVariants.{DoesNotFit, OutOfMemory}
 use Rattle.raft_handlers.specs.declared.message.Outcome.{Outcome}
 use Rattle.raft_handlers.specs.declared.message.Outcome.TheVariants.{Matches, Conflict, HigherVote}
 use Rattle.raft_progress.specs.progress.Comparisons.{OrdMembers}
@@ -52,21 +52,26 @@ AnswersSnapshot ord same_leader IsCopy meta (HigherVote vote) old new =
 
 -- why a snapshot is refused for itself: it is past what is committed, and may not be installed
 abbrev pub install_refusal : {K N I L C : Type 0} → (L → L → Option Ordering) → (C → C → Ordering)
-    → (C → C → Bool) → SnapshotMetaOf C K N → RaftStateIn K N I L C → Option HandlerError
+    → (C → C → Bool) → SnapshotMetaOf C K N → RaftStateIn K N I L C → Option SnapshotError
 install_refusal order cmp eq meta s =
     if id_lt cmp s.committed meta.last_log_id && not (may_install order cmp eq meta s)
-    then Some SnapshotDoesNotFit else None
+    then Some DoesNotFit else None
 
 -- why a leader's snapshot is refused: only a leader that is followed may have it refused
 abbrev pub snapshot_refusal : {K N I L C : Type 0} → (L → L → Option Ordering)
     → (C → C → Ordering) → (C → C → Bool) → L → SnapshotMetaOf C K N → RaftStateIn K N I L C
-    → Option HandlerError
+    → Option SnapshotError
 snapshot_refusal order cmp eq leader meta s =
     if is_followed order leader s then install_refusal order cmp eq meta (heard order leader s)
     else None
 
 -- a call that has a reason to refuse is refused for it, and otherwise fails only because an
 -- allocation fails
-abbrev pub RefusedFor : {T : Type 0} → Option HandlerError → Result T HandlerError → Type 0
+abbrev pub RefusedFor : {T : Type 0} → Option SnapshotError → Result T SnapshotError → Type 0
 RefusedFor (Some reason) result = result ≡ Err reason
 RefusedFor None result = IfErr result (λ e. e ≡ OutOfMemory)
+
+-- a snapshot is refused only if it does not fit, or because an allocation fails
+abbrev pub RefusedUnlessFits : Bool → SnapshotError → Type 0
+RefusedUnlessFits fits DoesNotFit = fits ≡ false
+RefusedUnlessFits fits OutOfMemory = Unit {0}

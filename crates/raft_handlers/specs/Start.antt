@@ -2,8 +2,8 @@
 use Rattle.std.specs.Prelude.{◌≡◌, ◌∷◌, Bool, true, false, List, [], Some, IsTrue, is_some}
 use Rattle.std.specs.declared.cmp.Ordering.{Ordering}
 use Rattle.raft_base.specs.declared.log_id.LogIdOf.{LogIdOf}
-use Rattle.raft_handlers.specs.declared.error.HandlerError.{HandlerError}
-use Rattle.raft_handlers.specs.declared.error.HandlerError.TheVariants.{
+use Rattle.raft_handlers.specs.declared.error.StartError.{StartError}
+use Rattle.raft_handlers.specs.declared.error.StartError.TheVariants.{
   InvalidMembership,
   MembershipNotInOrder,
   NotAllowed,
@@ -57,11 +57,10 @@ pub record Starts {K N I L C D : Type 0} (id_eq : K → K → Bool) (same : N �
 -- why a start is refused: the server belongs to a cluster, it is no member, the membership could not
 -- decide, or a membership is effective already
 abbrev pub IsStartRefusal : {K N I L C : Type 0} → (L → L → Bool) → (L → Type 0) → OrdMembers K
-    → RaftStateIn K N I L C → K → MemberList K N → HandlerError → Type 0
+    → RaftStateIn K N I L C → K → MemberList K N → StartError → Type 0
 IsStartRefusal eq is_default ord s id m NotAllowed = BelongsToCluster eq is_default s true
 IsStartRefusal eq is_default ord s id m NotInMembers = is_some (node_at ord.cmp m.nodes id) ≡ false
 IsStartRefusal eq is_default ord s id m InvalidMembership = CanDecide ord.eq ord.cmp m → ⊥
 IsStartRefusal eq is_default ord s id m MembershipNotInOrder =
     is_some (log_id_of s.membership_state.effective) ≡ true
 IsStartRefusal eq is_default ord s id m OutOfMemory = Unit {0}
-IsStartRefusal eq is_default ord s id m refusal = ⊥

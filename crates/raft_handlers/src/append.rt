@@ -6,13 +6,13 @@ ghost use Rattle.raft_handlers.specs.Append.{has_entry, least, take_tests, Answe
 ghost use Rattle.raft_handlers.specs.Follow.{is_followed, vote_heard};
 ghost use Rattle.raft_handlers.specs.Honest.{IsHonest};
 ghost use Rattle.raft_handlers.specs.Written.{no_changes, Writes, WritesLog};
-ghost use Rattle.raft_handlers.specs.declared.error.HandlerError.TheVariants.{OutOfMemory};
+ghost use Rattle.raft_handlers.specs.declared.error.AppendError.TheVariants.{OutOfMemory};
 ghost use Rattle.raft_handlers.specs.declared.message.Outcome.TheVariants.{HigherVote, Matches};
 ghost use Rattle.raft_state.specs.raft_state.Sound.{purged_or_logged, IsSound};
 ghost use Rattle.raft_state.specs.raft_state.VoteAndLog.{vote_of};
 
 use crate::changes::Changes;
-use crate::error::HandlerError;
+use crate::error::AppendError;
 use crate::laws::honest_request_may_be_taken;
 use crate::log::{append_new, are_in_order, are_plain, commit, cut, has};
 use crate::message::{AppendEntries, Outcome, Response};
@@ -41,7 +41,7 @@ pub fn handle_append_entries<
 >(
     state: &mut State<NID, N, I, L>,
     request: &AppendEntries<L, L::Committed, NID, N, D>,
-) -> Result<(Response<L, L::Committed>, Changes<L::Committed>), HandlerError>
+) -> Result<(Response<L, L::Committed>, Changes<L::Committed>), AppendError>
     requires clones_are_equal { ClonesAreEqual N.eq N.is_clone }
     ensures leader { IfOk result (λ made.
         made.0.leader_id ≡ L.committed request.now.leader_id) }
@@ -110,7 +110,7 @@ pub fn handle_append_entries<
 fn match_log<NID: NodeId, N: Node, I: Instant, L: Drop, C: Ord + Copy + Drop, D>(
     state: &mut RaftStateIn<NID, N, I, L, C>,
     request: &AppendEntries<L, C, NID, N, D>,
-) -> Result<(Outcome<L, C>, Changes<C>), HandlerError>
+) -> Result<(Outcome<L, C>, Changes<C>), AppendError>
     requires clones_are_equal { ClonesAreEqual N.eq N.is_clone }
     ensures followed { IfOk result (λ made. IfHigherVote made.0 (λ _. ⊥)) }
     ensures answers { IfOk result (λ made.
@@ -176,7 +176,7 @@ fn take_entries<NID: NodeId, N: Node, I: Instant, L: Drop, C: Ord + Copy + Drop,
     prev: Option<LogIdOf<C>>,
     entries: &[EntryOf<C, NID, N, D>],
     committed: Option<LogIdOf<C>>,
-) -> Result<Changes<C>, HandlerError>
+) -> Result<Changes<C>, AppendError>
     requires clones_are_equal { ClonesAreEqual N.eq N.is_clone }
     requires prev { IsTrue (purged_or_logged C.eq state.old prev) }
     ensures writes { IfOk result (λ changes. WritesLog C.Ord entries.now (Matches prev) changes
@@ -196,7 +196,7 @@ fn take_entries<NID: NodeId, N: Node, I: Instant, L: Drop, C: Ord + Copy + Drop,
 {
     let plain = are_plain(entries);
     if !are_in_order(prev, entries, plain) {
-        return Err(HandlerError::NotInOrder);
+        return Err(AppendError::NotInOrder);
     }
     let place = first_new(state, entries);
     let new = &entries[place..];

@@ -9,7 +9,7 @@ ghost use Rattle.raft_members.specs.quorum.Majority.{is_majority};
 ghost use Rattle.raft_state.specs.raft_state.Sound.{IsSound};
 ghost use Rattle.raft_state.specs.raft_state.VoteAndLog.{vote_of};
 
-use crate::error::HandlerError;
+use crate::error::CampaignError;
 use crate::message::{VoteRequest, VoteResponse};
 use crate::state::State;
 use raft_base::{
@@ -90,7 +90,7 @@ impl<
         id: NID,
         greatest_term: u64,
         state: &mut State<NID, N, I, L>,
-    ) -> Result<Self, HandlerError>
+    ) -> Result<Self, CampaignError>
         requires clones_are_equal { ClonesAreEqual N.eq N.is_clone }
         ensures campaigns { let by = compared NID.Ord N.eq L.LeaderIdentity C.Ord in
             IfOk result (Campaigns by id greatest_term state.old state.new) }
@@ -101,20 +101,20 @@ impl<
         ensures sound { IsSound C.eq C.cmp state.old → IsSound C.eq C.cmp state.new }
     {
         if !may_lead(&id, state) {
-            return Err(HandlerError::NotVoter);
+            return Err(CampaignError::NotVoter);
         }
         let term = greatest_term.max(L::term(state.vote_ref().leader_id()));
         if term == u64::MAX {
-            return Err(HandlerError::NoNextTerm);
+            return Err(CampaignError::NoNextTerm);
         }
         let vote = VoteIn::new(term + 1, id);
         let last_log_id = state.last_log_id().copied();
         let members = state.membership_state.effective().membership();
         let Ok(members) = members.try_clone() else {
-            return Err(HandlerError::OutOfMemory);
+            return Err(CampaignError::OutOfMemory);
         };
         let Ok(mut votes) = Tracked::new(members, false) else {
-            return Err(HandlerError::OutOfMemory);
+            return Err(CampaignError::OutOfMemory);
         };
         let _reply = votes.update(&id, true);
         let _promised = state.promise(vote);

@@ -4,7 +4,6 @@ ghost use Rattle.std.specs.Option.{option_copied};
 ghost use Rattle.std.specs.Set.{ClonesAreEqual};
 ghost use Rattle.raft_handlers.specs.Campaign.{IsElectionRefusal};
 ghost use Rattle.raft_handlers.specs.Compared.{compared};
-ghost use Rattle.raft_handlers.specs.Entries.{IsFullLogRefusal};
 ghost use Rattle.raft_handlers.specs.Leadership.{BecomesLeader, BeginsToLead, IsResumeRefusal, entry_of, is_leading};
 ghost use Rattle.raft_progress.specs.tracked.Tracked.{tracked_view};
 ghost use Rattle.raft_state.specs.log_id_list.FullLog.{end_index, full_log};
@@ -19,12 +18,13 @@ mod show;
 mod step_down;
 
 use crate::candidate::Candidate;
-use crate::error::HandlerError;
+use crate::error::{LeadError, ResumeError};
 use crate::state::State;
 pub use change::ChangeError;
 use raft_base::{Instant, LeaderIdentity, LogIdOf, LogIdOptionExt, LogStateReader, Node, NodeId};
 use raft_progress::{Progress, ProgressEntryOf, ProgressPart, Tracked};
 use raft_state::{RaftStateIn, VoteStateReader};
+use std::alloc::AllocError;
 use std::marker::Model;
 
 /// A leader, which a quorum has elected.
@@ -74,7 +74,7 @@ impl<NID: NodeId, N: Node, C: Ord + Copy + Drop> Leader<NID, N, C> {
     pub fn new<I: Instant, L: LeaderIdentity<Id = NID, Committed = C> + Drop>(
         state: &mut State<NID, N, I, L>,
         candidate: &Candidate<NID, N, L, C>,
-    ) -> Result<Self, HandlerError>
+    ) -> Result<Self, LeadError>
     where
         C: Default + 'static,
         requires clones_are_equal { ClonesAreEqual N.eq N.is_clone }
@@ -86,13 +86,18 @@ impl<NID: NodeId, N: Node, C: Ord + Copy + Drop> Leader<NID, N, C> {
         ensures sound { IsSound C.eq C.cmp state.old → IsSound C.eq C.cmp state.new }
     {
         if !candidate.is_elected() {
-            return Err(HandlerError::NotElected);
+            return Err(LeadError::NotElected);
         }
         if *state.vote_ref() != candidate.vote() {
-            return Err(HandlerError::NotLeader);
+            return Err(LeadError::NotLeader);
+        }
+        let last = state.last_log_id().copied();
+        if !last.has_next_index() {
+            return Err(LeadError::NoNextIndex);
         }
         let leader_id = L::to_committed(state.vote_ref().leader_id());
-        let leader = Leader::with_unknown_members(candidate.id(), leader_id, state)?;
+        let end = last.next_index();
+        let leader = Leader::with_unknown_members(candidate.id(), leader_id, end, state)?;
         state.vote.get_mut().commit();
         Ok(leader)
     }
@@ -105,7 +110,7 @@ impl<NID: NodeId, N: Node, C: Ord + Copy + Drop> Leader<NID, N, C> {
     pub fn resume<I: Instant, L: LeaderIdentity<Id = NID, Committed = C> + Drop>(
         id: NID,
         state: &State<NID, N, I, L>,
-    ) -> Result<Self, HandlerError>
+    ) -> Result<Self, ResumeError>
     where
         C: Default + 'static,
         requires clones_are_equal { ClonesAreEqual N.eq N.is_clone }
@@ -118,39 +123,36 @@ impl<NID: NodeId, N: Node, C: Ord + Copy + Drop> Leader<NID, N, C> {
     {
         let vote = state.vote_ref();
         if !vote.is_committed() || L::voted_for(vote.leader_id()) != Some(id) {
-            return Err(HandlerError::NotLeader);
+            return Err(ResumeError::NotLeader);
         }
-        Leader::with_unknown_members(id, L::to_committed(vote.leader_id()), state)
+        let last = state.last_log_id().copied();
+        if !last.has_next_index() {
+            return Err(ResumeError::NoNextIndex);
+        }
+        let leader_id = L::to_committed(vote.leader_id());
+        let leader = Leader::with_unknown_members(id, leader_id, last.next_index(), state)?;
+        Ok(leader)
     }
 
-    /// Returns a leader that knows nothing of the members of a state.
+    /// Returns a leader that knows nothing of the members of a state, whose log has this end.
     fn with_unknown_members<I: Instant, L: Drop>(
         id: NID,
         leader_id: C,
+        end: u64,
         state: &RaftStateIn<NID, N, I, L, C>,
-    ) -> Result<Self, HandlerError>
+    ) -> Result<Self, AllocError>
         requires clones_are_equal { ClonesAreEqual N.eq N.is_clone }
+        requires end { end ≡ end_index (full_log state.now.log_ids) }
         ensures begins { IfOk result (BeginsToLead NID.eq N.eq id leader_id state.now) }
-        ensures refused { IfErr result
-            (IsFullLogRefusal (end_index (full_log state.now.log_ids))) }
     {
-        let last = state.last_log_id().copied();
-        if !last.has_next_index() {
-            return Err(HandlerError::NoNextIndex);
-        }
-        let Ok(members) = state.membership_state.effective().membership().try_clone() else {
-            return Err(HandlerError::OutOfMemory);
-        };
-        let unknown = ProgressEntryOf::<C>::empty(last.next_index());
-        match Tracked::new(members, unknown) {
-            Ok(followers) => Ok(Leader {
-                id,
-                leader_id,
-                followers,
-                last_request: 0,
-            }),
-            Err(_) => Err(HandlerError::OutOfMemory),
-        }
+        let members = state.membership_state.effective().membership().try_clone()?;
+        let followers = Tracked::new(members, ProgressEntryOf::<C>::empty(end))?;
+        Ok(Leader {
+            id,
+            leader_id,
+            followers,
+            last_request: 0,
+        })
     }
 
     /// Returns the id of the node that leads.

@@ -22,7 +22,10 @@ pub mod vote;
 pub use append::handle_append_entries;
 pub use candidate::{Candidate, Tally, may_lead};
 pub use changes::{Changes, SnapshotChanges};
-pub use error::HandlerError;
+pub use error::{
+    AppendError, CampaignError, CommitError, FlushError, HandlerError, LeadError, ProposeError,
+    ResponseError, RestartError, ResumeError, SnapshotError, StartError,
+};
 pub use leader::{ChangeError, Leader};
 pub use message::{AppendEntries, InstallSnapshot, Outcome, Response, VoteRequest, VoteResponse};
 pub use restart::{Stored, restart_server};

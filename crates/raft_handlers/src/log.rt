@@ -10,7 +10,7 @@ ghost use Rattle.raft_state.specs.log_id_list.LogConditions.{follows};
 ghost use Rattle.raft_state.specs.raft_state.Commit.{state_after_commit, state_may_commit};
 ghost use Rattle.raft_state.specs.raft_state.Sound.{purged_or_logged, IsSound};
 
-use crate::error::HandlerError;
+use crate::error::AppendError;
 use raft_base::order::{index_below, log_id_below};
 use raft_base::{Instant, LogIdOf, LogIdOptionExt, LogStateReader, Node, NodeId};
 use raft_state::{EntryOf, RaftPayload, RaftStateIn};
@@ -24,7 +24,7 @@ use std::alloc::AllocError;
 pub(crate) fn cut<NID: NodeId, N: Node, I: Instant, L: Drop, C: Ord + Copy + Drop>(
     state: &mut RaftStateIn<NID, N, I, L, C>,
     since: u64,
-) -> Result<Option<u64>, HandlerError>
+) -> Result<Option<u64>, AppendError>
     ensures truncated { IfOk result (λ from. Truncates from state.old state.new) }
     ensures cut { OnOk result (IsCut C.Ord since state.old state.new) }
     ensures refused { IfErr result (RefusedUnless
@@ -48,7 +48,7 @@ pub(crate) fn cut<NID: NodeId, N: Node, I: Instant, L: Drop, C: Ord + Copy + Dro
 fn truncate<NID: NodeId, N: Node, I: Instant, L: Drop, C: Ord + Copy + Drop>(
     state: &mut RaftStateIn<NID, N, I, L, C>,
     since: u64,
-) -> Result<(), HandlerError>
+) -> Result<(), AppendError>
     requires { ends_before since state.old ≡ false }
     ensures cut { OnOk result (IsCut C.Ord since state.old state.new) }
     ensures refused { IfErr result (RefusedUnless
@@ -57,7 +57,7 @@ fn truncate<NID: NodeId, N: Node, I: Instant, L: Drop, C: Ord + Copy + Drop>(
     ensures sound { IsSound C.eq C.cmp state.old → IsSound C.eq C.cmp state.new }
 {
     if !state.can_truncate_log(since) {
-        return Err(HandlerError::TruncatesCommitted);
+        return Err(AppendError::TruncatesCommitted);
     }
     state.truncate_log(since)?;
     Ok(())
@@ -83,7 +83,7 @@ pub(crate) fn append_new<NID: NodeId, N: Node, I: Instant, L: Drop, C: Ord + Cop
     state: &mut RaftStateIn<NID, N, I, L, C>,
     new: &[EntryOf<C, NID, N, D>],
     plain: bool,
-) -> Result<Option<u64>, HandlerError>
+) -> Result<Option<u64>, AppendError>
     requires clones_are_equal { ClonesAreEqual N.eq N.is_clone }
     requires plain { IsTrue plain → IsTrue (are_plain C.eq new.now) }
     ensures written { IfOk result (λ from.
@@ -197,14 +197,14 @@ fn continue_log<NID: NodeId, N: Node, C: Ord + Copy, D>(
 fn refusal<NID: NodeId, N: Node, I: Instant, L: Drop, C: Ord + Copy + Drop, D>(
     state: &RaftStateIn<NID, N, I, L, C>,
     new: &[EntryOf<C, NID, N, D>],
-) -> HandlerError
+) -> AppendError
     requires { may_extend C.cmp new.now state.now ≡ false }
     ensures { RefusedUnless (end_tests C.cmp new.now state.now) result }
 {
     if are_successors(state.last_log_id().copied(), new) {
-        HandlerError::MembershipNotInOrder
+        AppendError::MembershipNotInOrder
     } else {
-        HandlerError::NotInOrder
+        AppendError::NotInOrder
     }
 }
 
@@ -260,7 +260,7 @@ fn is_successor<C: Ord + Copy>(last: Option<LogIdOf<C>>, id: LogIdOf<C>) -> bool
 pub(crate) fn commit<NID: NodeId, N: Node, I: Instant, L: Drop, C: Ord + Copy + Drop>(
     state: &mut RaftStateIn<NID, N, I, L, C>,
     upto: Option<LogIdOf<C>>,
-) -> Result<Option<LogIdOf<C>>, HandlerError>
+) -> Result<Option<LogIdOf<C>>, AppendError>
     ensures risen { IfOk result (λ risen.
         risen ≡ risen_to C.cmp state.old.committed state.new.committed) }
     ensures may { OnOk result (IsTrue (state_may_commit C.cmp upto state.old)) }
@@ -278,10 +278,10 @@ pub(crate) fn commit<NID: NodeId, N: Node, I: Instant, L: Drop, C: Ord + Copy + 
         return Ok(None);
     }
     if !state.is_logged(&upto) {
-        return Err(HandlerError::CommittedNotLogged);
+        return Err(AppendError::CommittedNotLogged);
     }
     if !state.can_commit(&upto) {
-        return Err(HandlerError::MembershipNotInOrder);
+        return Err(AppendError::MembershipNotInOrder);
     }
     state.update_committed(&upto)?;
     Ok(upto)

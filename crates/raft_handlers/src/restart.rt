@@ -1,13 +1,13 @@
 //! A restart: the state of a server from what its disk has.
 ghost use Rattle.std.specs.Prelude.{◌≡◌, ◌≤◌, None, IfErr, IfOk, IsOkAnd, IsTrue, OnOk, drop, length};
 ghost use Rattle.std.specs.Set.{ClonesAreEqual};
-ghost use Rattle.raft_handlers.specs.Entries.{tests_hold, RefusedUnless};
 ghost use Rattle.raft_handlers.specs.Restart.{entries_past, snapshot_fits, CommitsKnown, HasNotRun, HasSnapshotAlone, IsRestartRefusal, Restores};
+ghost use Rattle.raft_handlers.specs.Snapshot.{RefusedUnlessFits};
 ghost use Rattle.raft_state.specs.Accepted.{accepted_from};
 ghost use Rattle.raft_state.specs.raft_state.Sound.{IsSound};
 ghost use Rattle.raft_state.specs.raft_state.VoteAndLog.{vote_of};
 
-use crate::error::HandlerError;
+use crate::error::{RestartError, SnapshotError};
 use crate::log::{append_new, are_plain, commit};
 use crate::snapshot::install;
 use crate::state::State;
@@ -61,7 +61,7 @@ impl<L: Default, C: Copy, NID: NodeId, N: Node, D> Stored<L, C, NID, N, D> {
 pub fn restart_server<NID: NodeId, N: Node, I: Instant, L: LeaderIdentity<Id = NID> + Drop, D>(
     alloc: Global,
     stored: &Stored<L, L::Committed, NID, N, D>,
-) -> Result<State<NID, N, I, L>, HandlerError>
+) -> Result<State<NID, N, I, L>, RestartError>
     requires clones_are_equal { ClonesAreEqual N.eq N.is_clone }
     ensures vote { IfOk result (λ state. vote_of state ≡ stored.now.vote) }
     ensures accepted { IfOk result (λ state. (leader : L) × L.Default.is_default leader
@@ -110,16 +110,15 @@ fn commit_known<NID: NodeId, N: Node, I: Instant, L: Drop, C: Ord + Copy + Drop>
 fn from_snapshot<NID: NodeId, N: Node, I: Instant, L: LeaderIdentity<Id = NID> + Drop>(
     alloc: Global,
     snapshot: &SnapshotMetaOf<L::Committed, NID, N>,
-) -> Result<State<NID, N, I, L>, HandlerError>
+) -> Result<State<NID, N, I, L>, SnapshotError>
     requires clones_are_equal { ClonesAreEqual N.eq N.is_clone }
     ensures snapshot { IfOk result (HasSnapshotAlone NID.eq N.eq snapshot.now) }
     ensures not_run { IfOk result
         (HasNotRun L.Default.is_default L.Committed.Default.is_default) }
     ensures fits { OnOk result (IsTrue (snapshot_fits L.Committed.cmp
         snapshot.now.last_log_id snapshot.now.last_membership)) }
-    ensures refused { IfErr result (RefusedUnless (record tests_hold {
-      fits = snapshot_fits L.Committed.cmp snapshot.now.last_log_id snapshot.now.last_membership;
-    })) }
+    ensures refused { IfErr result (RefusedUnlessFits
+        (snapshot_fits L.Committed.cmp snapshot.now.last_log_id snapshot.now.last_membership)) }
     ensures sound { IfOk result (IsSound L.Committed.eq L.Committed.cmp) }
 {
     let mut state = State::<NID, N, I, L>::try_default(alloc)?;

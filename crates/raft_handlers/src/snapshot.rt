@@ -11,7 +11,7 @@ ghost use Rattle.raft_state.specs.raft_state.Sound.{IsSound};
 ghost use Rattle.raft_state.specs.raft_state.VoteAndLog.{vote_of};
 
 use crate::changes::SnapshotChanges;
-use crate::error::HandlerError;
+use crate::error::SnapshotError;
 use crate::message::{InstallSnapshot, Outcome, Response};
 use crate::state::State;
 use crate::vote::follow;
@@ -36,7 +36,7 @@ pub fn handle_install_snapshot<
 >(
     state: &mut State<NID, N, I, L>,
     request: &InstallSnapshot<L, L::Committed, NID, N>,
-) -> Result<(Response<L, L::Committed>, SnapshotChanges), HandlerError>
+) -> Result<(Response<L, L::Committed>, SnapshotChanges), SnapshotError>
     requires clones_are_equal { ClonesAreEqual N.eq N.is_clone }
     ensures leader { IfOk result (λ made.
         made.0.leader_id ≡ L.committed request.now.leader_id) }
@@ -98,7 +98,7 @@ pub fn handle_install_snapshot<
 pub(crate) fn install<NID: NodeId, N: Node, I: Instant, L: LeaderIdentity<Id = NID> + Drop>(
     state: &mut State<NID, N, I, L>,
     meta: &SnapshotMetaOf<L::Committed, NID, N>,
-) -> Result<SnapshotChanges, HandlerError>
+) -> Result<SnapshotChanges, SnapshotError>
     requires clones_are_equal { ClonesAreEqual N.eq N.is_clone }
     ensures writes { IfOk result (λ changes.
         WritesInstall L.Committed.Ord true meta.now changes state.old state.new) }
@@ -118,7 +118,7 @@ pub(crate) fn install<NID: NodeId, N: Node, I: Instant, L: LeaderIdentity<Id = N
         });
     }
     if !state.can_install_snapshot(meta) {
-        return Err(HandlerError::SnapshotDoesNotFit);
+        return Err(SnapshotError::DoesNotFit);
     }
     let is_logged = state.is_logged(&meta.last_log_id);
     state.install_snapshot(meta.try_clone()?)?;

@@ -6,7 +6,7 @@ ghost use Rattle.raft_members.specs.membership.Members.{node_at};
 ghost use Rattle.raft_state.specs.raft_state.Sound.{IsSound};
 ghost use Rattle.raft_state.specs.raft_state.VoteAndLog.{vote_of};
 
-use crate::error::HandlerError;
+use crate::error::StartError;
 use crate::state::State;
 use raft_base::{Instant, LeaderIdentity, LogIdOf, Node, NodeId};
 use raft_members::Membership;
@@ -24,7 +24,7 @@ pub fn start_cluster<NID: NodeId, N: Node, I: Instant, L: LeaderIdentity<Id = NI
     state: &mut State<NID, N, I, L>,
     id: &NID,
     membership: Membership<NID, N>,
-) -> Result<Vec<EntryOf<L::Committed, NID, N, D>>, HandlerError>
+) -> Result<Vec<EntryOf<L::Committed, NID, N, D>>, StartError>
     requires clones_are_equal { ClonesAreEqual N.eq N.is_clone }
     ensures new { IsOk result → BelongsToCluster L.eq L.Default.is_default state.old false }
     ensures member { OnOk result (IsTrue (is_some (node_at NID.cmp membership.nodes id.now))) }
@@ -43,17 +43,17 @@ pub fn start_cluster<NID: NodeId, N: Node, I: Instant, L: LeaderIdentity<Id = NI
         IsSound L.Committed.eq L.Committed.cmp state.new }
 {
     if state.is_initialized() {
-        return Err(HandlerError::NotAllowed);
+        return Err(StartError::NotAllowed);
     }
     if !membership.contains(id) {
-        return Err(HandlerError::NotInMembers);
+        return Err(StartError::NotInMembers);
     }
     // Without a config there is no voter, and nothing could ever be decided.
     if membership.get_joint_config().as_slice().is_empty() {
-        return Err(HandlerError::InvalidMembership);
+        return Err(StartError::InvalidMembership);
     }
     if membership.ensure_valid().is_err() {
-        return Err(HandlerError::InvalidMembership);
+        return Err(StartError::InvalidMembership);
     }
     let leader_id = L::to_committed(state.vote_ref().leader_id());
     let mut entries = Vec::new(*membership.get_joint_config().allocator());
@@ -62,10 +62,10 @@ pub fn start_cluster<NID: NodeId, N: Node, I: Instant, L: LeaderIdentity<Id = NI
         payload: EntryPayload::Membership(membership),
     };
     let Ok(()) = entries.push(entry) else {
-        return Err(HandlerError::OutOfMemory);
+        return Err(StartError::OutOfMemory);
     };
     if !state.can_append_entries(&entries) {
-        return Err(HandlerError::MembershipNotInOrder);
+        return Err(StartError::MembershipNotInOrder);
     }
     state.append_entries(&entries)?;
     Ok(entries)

@@ -7,8 +7,8 @@ use crate::vote::{ROWS, answers};
 use raft_base::{EmptyNode, LeaderAdv, LeaderId, LeaderKind, VoteIn};
 use raft_handlers::{
     AppendEntries, Candidate, ChangeError, HandlerError, InstallSnapshot, Leader, Outcome,
-    Response, Stored, handle_append_entries, handle_install_snapshot, restart_server,
-    start_cluster,
+    ProposeError, Response, SnapshotError, Stored, handle_append_entries, handle_install_snapshot,
+    restart_server, start_cluster,
 };
 use raft_members::{ChangeMembers, ChangeMembershipErrorOf, StoredMembershipOf};
 use raft_state::SnapshotMetaOf;
@@ -24,19 +24,19 @@ type Id = LeaderId<u64>;
 type State = StateOf<LeaderAdv>;
 
 /// Whether a handler did its work, or its allocation error.
-fn is_done<T: Drop>(
+fn is_done<T: Drop, E: From<AllocError> + PartialEq + Drop>(
     allocation: Allocation,
-    made: Result<T, HandlerError>,
+    made: Result<T, E>,
 ) -> Result<bool, AllocError> {
     match made {
         Ok(_) => Ok(true),
-        Err(HandlerError::OutOfMemory) => Err(AllocError),
+        Err(refused) if refused == E::from(AllocError) => Err(AllocError),
         Err(_) => allocation.made(false),
     }
 }
 
 /// What a handler made, or an allocation error in the place of any refusal.
-fn in_memory<T: Drop>(made: Result<T, HandlerError>) -> Result<T, AllocError> {
+fn in_memory<T: Drop, E: Drop>(made: Result<T, E>) -> Result<T, AllocError> {
     match made {
         Ok(made) => Ok(made),
         Err(_) => Err(AllocError),
@@ -143,7 +143,7 @@ fn is_changed<K: LeaderKind<u64>>(
 ) -> Result<bool, AllocError> {
     match made {
         Ok(_) => Ok(true),
-        Err(ChangeError::Entry(HandlerError::OutOfMemory))
+        Err(ChangeError::Entry(ProposeError::OutOfMemory))
         | Err(ChangeError::Change(ChangeMembershipErrorOf::OutOfMemory)) => Err(AllocError),
         Err(_) => allocation.made(false),
     }
@@ -182,7 +182,7 @@ impl<K: LeaderKind<u64>> Led<K> {
     ) -> Result<bool, AllocError> {
         let leader: LeaderOf<K> = in_memory(Leader::resume(1, state))?;
         allocation.refuse();
-        let made: Result<Entry<K>, HandlerError> = if is_blank {
+        let made: Result<Entry<K>, ProposeError> = if is_blank {
             leader.propose_blank(state)
         } else {
             leader.propose(state, 7)
@@ -281,7 +281,7 @@ fn allocations_of_a_leader(rt: HostRuntime) -> Result<(), Fail> {
 fn is_life_free<K: LeaderKind<u64>>(
     rt: &impl Print,
     alloc: Global,
-    state: Result<StateOf<K>, HandlerError>,
+    state: Result<StateOf<K>, SnapshotError>,
     rows: &[(&'static str, Step, Right)],
 ) -> io::Result<bool> {
     let name = "Leader::{next_request, handle_response, handle_flushed, give_up, commit}";

@@ -5,7 +5,7 @@ use crate::states::{
     Answer, Row, StateOf, due, entries, entry_of_members, follower, id, is_at, members,
 };
 use raft_base::{LeaderAdv, LeaderKind, LeaderStd, VoteOf};
-use raft_handlers::{AppendEntries, Changes, HandlerError, handle_append_entries};
+use raft_handlers::{AppendEntries, AppendError, Changes, handle_append_entries};
 use raft_members::EffectiveMembershipOf;
 use raft_state::MembershipStateOf;
 use raft_testing::memory::on;
@@ -30,7 +30,7 @@ const FIRST: Row = Some((1, 1));
 
 /// Requests to the follower, what it answers and writes, and then its last log id and the committed
 /// one.
-const ROWS: &[(&str, Sent, Answer, Written, Row, Row)] = &[
+const ROWS: &[(&str, Sent, Answer<AppendError>, Written, Row, Row)] = &[
     (
         "a heartbeat commits what both logs have",
         (3, END, &[], Some((2, 2))),
@@ -114,7 +114,7 @@ const ROWS: &[(&str, Sent, Answer, Written, Row, Row)] = &[
     (
         "the entries have a gap, and the vote is the leader's",
         (4, END, &[(4, 5)], None),
-        Answer::Refused(HandlerError::NotInOrder),
+        Answer::Refused(AppendError::NotInOrder),
         NOTHING,
         END,
         FIRST,
@@ -122,7 +122,7 @@ const ROWS: &[(&str, Sent, Answer, Written, Row, Row)] = &[
     (
         "the leaders of the entries fall",
         (3, END, &[(1, 4)], None),
-        Answer::Refused(HandlerError::NotInOrder),
+        Answer::Refused(AppendError::NotInOrder),
         NOTHING,
         END,
         FIRST,
@@ -130,7 +130,7 @@ const ROWS: &[(&str, Sent, Answer, Written, Row, Row)] = &[
     (
         "what is committed conflicts with an entry",
         (3, Some((1, 0)), &[(3, 1)], None),
-        Answer::Refused(HandlerError::TruncatesCommitted),
+        Answer::Refused(AppendError::TruncatesCommitted),
         NOTHING,
         END,
         FIRST,
@@ -138,7 +138,7 @@ const ROWS: &[(&str, Sent, Answer, Written, Row, Row)] = &[
     (
         "what is committed conflicts with prev",
         (3, Some((0, 1)), &[], None),
-        Answer::Refused(HandlerError::TruncatesCommitted),
+        Answer::Refused(AppendError::TruncatesCommitted),
         NOTHING,
         END,
         FIRST,
@@ -146,7 +146,7 @@ const ROWS: &[(&str, Sent, Answer, Written, Row, Row)] = &[
     (
         "the log does not have what is to be committed",
         (3, END, &[], Some((2, 1))),
-        Answer::Refused(HandlerError::CommittedNotLogged),
+        Answer::Refused(AppendError::CommittedNotLogged),
         NOTHING,
         END,
         FIRST,
@@ -154,7 +154,7 @@ const ROWS: &[(&str, Sent, Answer, Written, Row, Row)] = &[
     (
         "the new entries stay if what is to be committed is refused",
         (4, FIRST, &[(4, 2)], Some((2, 9))),
-        Answer::Refused(HandlerError::CommittedNotLogged),
+        Answer::Refused(AppendError::CommittedNotLogged),
         NOTHING,
         Some((4, 2)),
         FIRST,
@@ -178,7 +178,7 @@ fn changes<K: LeaderKind<u64>>(term: u64, written: Written) -> Changes<K::Commit
 fn answers<K: LeaderKind<u64>>(
     state: &mut StateOf<K>,
     alloc: Global,
-    row: &(&str, Sent, Answer, Written, Row, Row),
+    row: &(&str, Sent, Answer<AppendError>, Written, Row, Row),
 ) -> Result<bool, AllocError> {
     let (_, sent, answer, written, last, committed) = *row;
     let request = AppendEntries {
@@ -189,7 +189,7 @@ fn answers<K: LeaderKind<u64>>(
         committed: id::<K>(sent.3),
     };
     let answered = handle_append_entries(state, &request);
-    let due = match due::<K>(sent.0, answer) {
+    let due = match due::<K, _>(sent.0, answer) {
         Ok(response) => Ok((response, changes::<K>(sent.0, written))),
         Err(refusal) => Err(refusal),
     };
@@ -226,7 +226,7 @@ fn entries_are_answered(rt: HostRuntime) -> Result<(), Fail> {
 fn append_members<K: LeaderKind<u64>>(
     state: &mut StateOf<K>,
     alloc: Global,
-) -> Result<Changes<K::Committed>, HandlerError> {
+) -> Result<Changes<K::Committed>, AppendError> {
     let at = Some((3, 4));
     let request = AppendEntries {
         leader_id: VoteOf::<u64, K>::new(3, 1).leader_id,
@@ -243,7 +243,7 @@ fn append_members<K: LeaderKind<u64>>(
 fn takes_members<K: LeaderKind<u64>>(
     state: &mut StateOf<K>,
     alloc: Global,
-) -> Result<bool, HandlerError> {
+) -> Result<bool, AppendError> {
     let written = append_members::<K>(state, alloc)?;
     let at = id::<K>(Some((3, 4)));
     let are_right = [
@@ -271,7 +271,7 @@ fn memberships_are_effective_at_once(rt: HostRuntime) -> Result<(), Fail> {
 fn refusal<K: LeaderKind<u64>>(
     state: &mut StateOf<K>,
     alloc: Global,
-) -> Result<Option<HandlerError>, HandlerError> {
+) -> Result<Option<AppendError>, AllocError> {
     let later = EffectiveMembershipOf::new_arc(id::<K>(Some((9, 1))), members(alloc)?)?;
     state.membership_state = MembershipStateOf::new(later.clone()?, later);
     Ok(append_members::<K>(state, alloc).err())
@@ -282,6 +282,6 @@ fn memberships_rise(rt: HostRuntime) -> Result<(), Fail> {
     let alloc = rt.alloc();
     let state = follower::<LeaderAdv>(alloc, None);
     let refused = on(state, |state| refusal::<LeaderAdv>(state, alloc))?;
-    assert!(rt; refused == Some(HandlerError::MembershipNotInOrder));
+    assert!(rt; refused == Some(AppendError::MembershipNotInOrder));
     Ok(())
 }

@@ -3,7 +3,7 @@
 use crate::asserts::assert_right;
 use crate::states::{StateOf, id, voter};
 use raft_base::{EmptyNode, LeaderAdv, LeaderKind, LeaderStd, VoteOf};
-use raft_handlers::{Candidate, HandlerError, Leader, Tally, VoteResponse};
+use raft_handlers::{CampaignError, Candidate, LeadError, Leader, Tally, VoteResponse};
 use raft_testing::memory::on;
 use std::alloc::{AllocError, Global};
 use std::test::Fail;
@@ -89,7 +89,7 @@ fn count<K: LeaderKind<u64>>(candidate: &mut CandidateOf<K>, votes: Votes) -> bo
 /// The candidate of term 6, which all elect.
 pub fn candidate<K: LeaderKind<u64>>(
     state: &mut StateOf<K>,
-) -> Result<CandidateOf<K>, HandlerError> {
+) -> Result<CandidateOf<K>, CampaignError> {
     let mut candidate = Candidate::campaign(1, 5, state)?;
     let _elected = count::<K>(&mut candidate, &[(2, 6, true), (3, 6, true)]);
     Ok(candidate)
@@ -103,7 +103,7 @@ fn elects<K: LeaderKind<u64>>(
     votes: Votes,
     refused: &[u64],
     tally: Tally,
-) -> Result<bool, HandlerError> {
+) -> Result<bool, CampaignError> {
     let mut candidate = Candidate::campaign(1, 5, state)?;
     let vote = VoteOf::<u64, K>::new(6, 1);
     let request = candidate.request();
@@ -111,7 +111,7 @@ fn elects<K: LeaderKind<u64>>(
     let is_elected = count::<K>(&mut candidate, votes);
     let leads = match Leader::new(state, &candidate) {
         Ok(leader) => leader.leads(state),
-        Err(refused) => refused != HandlerError::NotElected,
+        Err(refused) => refused != LeadError::NotElected,
     };
     let are_right = [
         request.vote == vote,
@@ -125,7 +125,7 @@ fn elects<K: LeaderKind<u64>>(
 }
 
 /// Returns the name of the first row after which the election stands otherwise.
-fn fails<K: LeaderKind<u64>>(alloc: Global) -> Result<Option<&'static str>, HandlerError> {
+fn fails<K: LeaderKind<u64>>(alloc: Global) -> Result<Option<&'static str>, CampaignError> {
     for (name, votes, refused, tally) in ROWS {
         if !on(
             voter::<K>(alloc),
@@ -149,15 +149,15 @@ fn refusal<K: LeaderKind<u64>>(
     state: &mut StateOf<K>,
     node: u64,
     term: u64,
-) -> Result<Option<HandlerError>, AllocError> {
+) -> Result<Option<CampaignError>, AllocError> {
     Ok(Candidate::campaign(node, term, state).err())
 }
 
 #[test]
 fn campaigns_are_refused(rt: HostRuntime) -> Result<(), Fail> {
     for (node, term, refused) in [
-        (4, 5, HandlerError::NotVoter),
-        (1, u64::MAX, HandlerError::NoNextTerm),
+        (4, 5, CampaignError::NotVoter),
+        (1, u64::MAX, CampaignError::NoNextTerm),
     ] {
         let state = voter::<LeaderStd>(rt.alloc());
         let refusal = on(state, |state| refusal::<LeaderStd>(state, node, term))?;

@@ -4,7 +4,7 @@ use crate::asserts::assert_right;
 use crate::leader::Led;
 use crate::states::{Entry, Row, StateOf, id, members_of, voter};
 use raft_base::{EmptyNode, LeaderAdv, LeaderKind, LeaderStd};
-use raft_handlers::{ChangeError, HandlerError, Outcome};
+use raft_handlers::{ChangeError, HandlerError, Outcome, ResponseError};
 use raft_members::{ChangeMembers, ChangeMembershipErrorOf, EffectiveMembershipOf};
 use raft_progress::InflightError;
 use raft_state::MembershipStateOf;
@@ -72,7 +72,7 @@ impl<K: LeaderKind<u64>> Led<K> {
         self.leader.handle_flushed(&self.state, upto)?;
         let _sent = self.leader.next_request(&self.state, &2, 8);
         self.take(2, request, Outcome::Matches(upto))?;
-        self.leader.commit(&mut self.state)
+        Ok(self.leader.commit(&mut self.state)?)
     }
 
     /// A leader whose own entry is committed.
@@ -144,8 +144,8 @@ fn a_member_leaves_in_two_steps(rt: HostRuntime) -> Result<(), Fail> {
 }
 
 /// A response to the request 1, which is not in flight.
-fn late(mine: Option<u64>) -> Result<(), HandlerError> {
-    Err(HandlerError::ResponseRefused(InflightError::InvalidRequestId { mine, received: 1 }))
+fn late(mine: Option<u64>) -> Result<(), ResponseError> {
+    Err(ResponseError::Inflight(InflightError::InvalidRequestId { mine, received: 1 }))
 }
 
 impl<K: LeaderKind<u64>> Led<K> {
@@ -160,7 +160,7 @@ impl<K: LeaderKind<u64>> Led<K> {
     }
 
     /// Node 3 acknowledges the request 1.
-    fn take_first(&mut self) -> Result<(), HandlerError> {
+    fn take_first(&mut self) -> Result<(), ResponseError> {
         self.take(3, 1, Outcome::Matches(id::<K>(Some((3, 5)))))
     }
 

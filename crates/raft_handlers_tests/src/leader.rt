@@ -4,7 +4,10 @@ use crate::asserts::assert_right;
 use crate::snapshot::request;
 use crate::states::{Entry, Row, StateOf, id, voter};
 use raft_base::{EmptyNode, LeaderAdv, LeaderKind, LeaderStd, VoteOf};
-use raft_handlers::{HandlerError, Leader, Outcome, Response, handle_install_snapshot};
+use raft_handlers::{
+    FlushError, HandlerError, Leader, Outcome, ProposeError, Response, ResponseError,
+    SnapshotError, handle_install_snapshot,
+};
 use raft_progress::{InflightError, InflightOf, Progress};
 use std::alloc::Global;
 use std::test::Fail;
@@ -95,7 +98,7 @@ impl<K: LeaderKind<u64>> Led<K> {
         from: u64,
         request: u64,
         outcome: Outcome<K::Leader, K::Committed>,
-    ) -> Result<(), HandlerError> {
+    ) -> Result<(), ResponseError> {
         let response = Response {
             leader_id: self.leader.leader_id(),
             request: Some(request),
@@ -105,7 +108,7 @@ impl<K: LeaderKind<u64>> Led<K> {
     }
 
     /// Appends an entry with data.
-    pub fn propose(&mut self) -> Result<Entry<K>, HandlerError> {
+    pub fn propose(&mut self) -> Result<Entry<K>, ProposeError> {
         self.leader.propose(&mut self.state, 7)
     }
 
@@ -123,7 +126,7 @@ impl<K: LeaderKind<u64>> Led<K> {
     }
 
     /// Takes the response of a node to a request of the leader of term 2.
-    fn take_foreign(&mut self, from: u64, request: u64, upto: Row) -> Result<(), HandlerError> {
+    fn take_foreign(&mut self, from: u64, request: u64, upto: Row) -> Result<(), ResponseError> {
         let response = Response::<K::Leader, K::Committed> {
             leader_id: K::new_committed(2, 2),
             request: Some(request),
@@ -136,28 +139,25 @@ impl<K: LeaderKind<u64>> Led<K> {
     fn make(&mut self, step: Step) -> Result<(), HandlerError> {
         match step {
             Step::Take(from, request, upto) => {
-                self.take(from, request, Outcome::Matches(id::<K>(upto)))
+                self.take(from, request, Outcome::Matches(id::<K>(upto)))?;
             }
             Step::Conflict(from, request, index) => {
-                self.take(from, request, Outcome::Conflict { index, last: None })
+                self.take(from, request, Outcome::Conflict { index, last: None })?;
             }
             Step::Depose(from) => {
                 let vote = VoteOf::<u64, K>::new(4, 2);
-                self.take(from, 1, Outcome::HigherVote(vote))
+                self.take(from, 1, Outcome::HigherVote(vote))?;
             }
-            Step::Foreign(from, request, upto) => self.take_foreign(from, request, upto),
-            Step::Flush(upto) => self.leader.handle_flushed(&self.state, id::<K>(upto)),
-            Step::GiveUp(to) => {
-                self.leader.give_up(&to);
-                Ok(())
-            }
+            Step::Foreign(from, request, upto) => self.take_foreign(from, request, upto)?,
+            Step::Flush(upto) => self.leader.handle_flushed(&self.state, id::<K>(upto))?,
+            Step::GiveUp(to) => self.leader.give_up(&to),
             Step::Propose => {
                 let _entry = self.propose()?;
-                Ok(())
             }
             // `meets` compares what these return.
-            Step::Send(_) | Step::Commit | Step::Own | Step::Promise => Ok(()),
+            Step::Send(_) | Step::Commit | Step::Own | Step::Promise => (),
         }
+        Ok(())
     }
 
     /// Whether a step has the right result.
@@ -200,28 +200,30 @@ impl<K: LeaderKind<u64>> Led<K> {
 }
 
 /// Responses to another request than that in flight.
-const LATE: Right = Right::Refused(HandlerError::ResponseRefused(
+const LATE: Right = Right::Refused(HandlerError::Response(ResponseError::Inflight(
     InflightError::InvalidRequestId {
         mine: Some(2),
         received: 1,
     },
-));
+)));
 
-const LATE_SNAPSHOT: Right = Right::Refused(HandlerError::ResponseRefused(
+const LATE_SNAPSHOT: Right = Right::Refused(HandlerError::Response(ResponseError::Inflight(
     InflightError::InvalidRequestId {
         mine: Some(3),
         received: 2,
     },
-));
+)));
 
-const DOUBLED: Right = Right::Refused(HandlerError::ResponseRefused(
+const DOUBLED: Right = Right::Refused(HandlerError::Response(ResponseError::Inflight(
     InflightError::InvalidRequestId {
         mine: None,
         received: 1,
     },
-));
+)));
 
-const PAST: Right = Right::Refused(HandlerError::ResponseRefused(InflightError::AckOutOfRange));
+const PAST: Right = Right::Refused(HandlerError::Response(ResponseError::Inflight(
+    InflightError::AckOutOfRange,
+)));
 
 const END: Row = Some((3, 5));
 
@@ -234,17 +236,17 @@ pub const LIFE: &[(&str, Step, Right)] = &[
     (
         "a response of no member",
         Step::Take(9, 1, END),
-        Right::Refused(HandlerError::UnknownMember),
+        Right::Refused(HandlerError::Response(ResponseError::UnknownMember)),
     ),
     (
         "a higher vote",
         Step::Depose(2),
-        Right::Refused(HandlerError::HigherVote),
+        Right::Refused(HandlerError::Response(ResponseError::HigherVote)),
     ),
     (
         "a response to an earlier leader",
         Step::Foreign(2, 1, END),
-        Right::Refused(HandlerError::ForeignResponse),
+        Right::Refused(HandlerError::Response(ResponseError::Foreign)),
     ),
     (
         "an earlier leader's",
@@ -269,23 +271,23 @@ pub const LIFE: &[(&str, Step, Right)] = &[
     (
         "past the log",
         Step::Flush(Some((3, 6))),
-        Right::Refused(HandlerError::NotLogged),
+        Right::Refused(HandlerError::Flush(FlushError::NotLogged)),
     ),
     (
         "the greatest index",
         Step::Flush(Some((3, u64::MAX))),
-        Right::Refused(HandlerError::NoNextIndex),
+        Right::Refused(HandlerError::Flush(FlushError::NoNextIndex)),
     ),
     ("its state has a higher vote", Step::Promise, Right::Done),
     (
         "it leads no more",
         Step::Propose,
-        Right::Refused(HandlerError::NotLeader),
+        Right::Refused(HandlerError::Propose(ProposeError::NotLeader)),
     ),
     (
         "its disk may have another leader's entries",
         Step::Flush(END),
-        Right::Refused(HandlerError::NotLeader),
+        Right::Refused(HandlerError::Flush(FlushError::NotLeader)),
     ),
 ];
 
@@ -322,13 +324,13 @@ fn life<K: LeaderKind<u64>>(alloc: Global) -> Result<Option<&'static str>, Handl
 }
 
 /// Installs the snapshot from which the leader's log begins.
-fn install<K: LeaderKind<u64>>(state: &mut StateOf<K>, alloc: Global) -> Result<(), HandlerError> {
+fn install<K: LeaderKind<u64>>(state: &mut StateOf<K>, alloc: Global) -> Result<(), SnapshotError> {
     let _response = handle_install_snapshot(state, &request::<K>(alloc, 3, START)?)?;
     Ok(())
 }
 
 /// The state of `voter` whose log begins after a snapshot.
-pub fn snapshotted<K: LeaderKind<u64>>(alloc: Global) -> Result<StateOf<K>, HandlerError> {
+pub fn snapshotted<K: LeaderKind<u64>>(alloc: Global) -> Result<StateOf<K>, SnapshotError> {
     let mut state = voter::<K>(alloc)?;
     install::<K>(&mut state, alloc)?;
     Ok(state)

@@ -16,6 +16,8 @@ mod change;
 #[cfg(test)]
 mod leader;
 #[cfg(test)]
+mod refusals;
+#[cfg(test)]
 mod snapshot;
 #[cfg(test)]
 mod start;

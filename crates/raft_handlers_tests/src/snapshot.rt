@@ -3,7 +3,7 @@
 use crate::asserts::assert_right;
 use crate::states::{Answer, Row, StateOf, due, follower, id, is_at};
 use raft_base::{EmptyNode, LeaderAdv, LeaderKind, LeaderStd, VoteOf};
-use raft_handlers::{HandlerError, InstallSnapshot, SnapshotChanges, handle_install_snapshot};
+use raft_handlers::{InstallSnapshot, SnapshotChanges, SnapshotError, handle_install_snapshot};
 use raft_state::SnapshotMetaOf;
 use raft_testing::memory::on;
 use std::alloc::{AllocError, Global};
@@ -33,7 +33,16 @@ const NOTHING: Written = (false, false);
 
 /// The term of the leader 1 that sends a snapshot up to a row, what the follower answers and
 /// writes, and then its last log id, the committed one, and the index after the purged ones.
-const ROWS: &[(&str, u64, Row, Answer, Written, Row, Row, u64)] = &[
+const ROWS: &[(
+    &str,
+    u64,
+    Row,
+    Answer<SnapshotError>,
+    Written,
+    Row,
+    Row,
+    u64,
+)] = &[
     (
         "a snapshot past the log takes its place",
         3,
@@ -88,7 +97,7 @@ const ROWS: &[(&str, u64, Row, Answer, Written, Row, Row, u64)] = &[
         "no index is after the snapshot",
         3,
         Some((3, u64::MAX)),
-        Answer::Refused(HandlerError::SnapshotDoesNotFit),
+        Answer::Refused(SnapshotError::DoesNotFit),
         NOTHING,
         END,
         FIRST,
@@ -115,7 +124,16 @@ pub fn request<K: LeaderKind<u64>>(
 fn answers<K: LeaderKind<u64>>(
     state: &mut StateOf<K>,
     alloc: Global,
-    row: &(&str, u64, Row, Answer, Written, Row, Row, u64),
+    row: &(
+        &str,
+        u64,
+        Row,
+        Answer<SnapshotError>,
+        Written,
+        Row,
+        Row,
+        u64,
+    ),
 ) -> Result<bool, AllocError> {
     let (_, term, upto, answer, (installed, drops_log), last, committed, purged_next) = *row;
     let changes = SnapshotChanges {
@@ -124,7 +142,7 @@ fn answers<K: LeaderKind<u64>>(
         drops_log,
     };
     let made = handle_install_snapshot(state, &request::<K>(alloc, term, upto)?);
-    let due = match due::<K>(term, answer) {
+    let due = match due::<K, _>(term, answer) {
         Ok(response) => Ok((response, changes)),
         Err(refusal) => Err(refusal),
     };

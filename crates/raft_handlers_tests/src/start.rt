@@ -2,7 +2,9 @@
 
 use crate::states::{StateOf, entries, id, is_at, members};
 use raft_base::{EmptyNode, LeaderAdv, LeaderKind, LeaderStd, LogIdOf, LogStateReader, VoteOf};
-use raft_handlers::{HandlerError, Stored, restart_server, start_cluster};
+use raft_handlers::{
+    HandlerError, RestartError, StartError, Stored, restart_server, start_cluster,
+};
 use raft_members::Membership;
 use raft_state::SnapshotMetaOf;
 use raft_testing::memory::{both, on};
@@ -15,7 +17,7 @@ fn start<K: LeaderKind<u64>>(
     state: &mut StateOf<K>,
     id: u64,
     members: Membership<u64, EmptyNode>,
-) -> Result<Option<LogIdOf<K::Committed>>, HandlerError> {
+) -> Result<Option<LogIdOf<K::Committed>>, StartError> {
     let entries = start_cluster::<_, _, _, _, u64>(state, &id, members)?;
     match entries.as_slice() {
         [entry] => Ok(Some(entry.log_id)),
@@ -27,7 +29,7 @@ fn start<K: LeaderKind<u64>>(
 fn starts_once<K: LeaderKind<u64>>(
     state: &mut StateOf<K>,
     alloc: Global,
-) -> Result<bool, HandlerError> {
+) -> Result<bool, StartError> {
     let other = start::<K>(state, 4, members(alloc)?);
     let first = start::<K>(state, 1, members(alloc)?);
     let again = start::<K>(state, 1, members(alloc)?);
@@ -56,7 +58,7 @@ fn a_cluster_starts_once(rt: HostRuntime) -> Result<(), Fail> {
 fn starts_from_nothing<K: LeaderKind<u64>>(alloc: Global) -> Result<bool, HandlerError> {
     let disk = StoredOf::<K>::try_default(alloc)?;
     let mut state = restart_server(alloc, &disk)?;
-    starts_once::<K>(&mut state, alloc)
+    Ok(starts_once::<K>(&mut state, alloc)?)
 }
 
 #[test]
@@ -85,7 +87,7 @@ fn a_cluster_needs_voters(rt: HostRuntime) -> Result<(), Fail> {
             state,
             |state| start::<LeaderAdv>(state, 1, no_voter(alloc, has_config)?),
         );
-        assert!(rt; refused == Err(HandlerError::InvalidMembership));
+        assert!(rt; refused == Err(StartError::InvalidMembership));
     }
     Ok(())
 }
@@ -113,7 +115,7 @@ fn stored<K: LeaderKind<u64>>(alloc: Global) -> Result<StoredOf<K>, AllocError> 
 
 /// Whether a server that restarts with these entries has its vote and its log again, and what was
 /// applied of it is committed.
-fn restarts<K: LeaderKind<u64>>(alloc: Global, stored: &StoredOf<K>) -> Result<bool, HandlerError> {
+fn restarts<K: LeaderKind<u64>>(alloc: Global, stored: &StoredOf<K>) -> Result<bool, RestartError> {
     let state: StateOf<K> = restart_server(alloc, stored)?;
     let is_voted = *state.vote.get() == stored.vote;
     Ok(is_voted && is_at::<K>(&state, Some((2, 2)), Some((1, 1))))

@@ -1,7 +1,7 @@
 //! States of servers, as plain rows over any kind of leader ids. The nodes are 1, 2 and 3.
 
 use raft_base::{EmptyNode, LeaderKind, LogIdOf, LogStateReader, UTime, VoteOf};
-use raft_handlers::{HandlerError, Outcome, Response, State};
+use raft_handlers::{Outcome, Response, State};
 use raft_members::Membership;
 use raft_state::{EntryOf, EntryPayload, LogIdListOf, is_key_list};
 use raft_testing::memory::both;
@@ -115,7 +115,7 @@ pub fn is_at<K: LeaderKind<u64>>(state: &StateOf<K>, last: Row, committed: Row) 
 
 /// What a server answers to a request.
 #[derive(Clone, Copy)]
-pub enum Answer {
+pub enum Answer<E> {
     /// Its log matches up to this row.
     Matches(Row),
     /// Its log conflicts at an index, and then ends with another one.
@@ -123,14 +123,14 @@ pub enum Answer {
     /// It has promised a higher vote.
     HigherVote,
     /// It refuses.
-    Refused(HandlerError),
+    Refused(E),
 }
 
 /// The response of the server `follower` to the request 7 of the leader 1 of a term.
-pub fn due<K: LeaderKind<u64>>(
+pub fn due<K: LeaderKind<u64>, E: Copy>(
     term: u64,
-    answer: Answer,
-) -> Result<Response<K::Leader, K::Committed>, HandlerError> {
+    answer: Answer<E>,
+) -> Result<Response<K::Leader, K::Committed>, E> {
     let outcome = match answer {
         Answer::Matches(upto) => Outcome::Matches(id::<K>(upto)),
         Answer::Conflict(index, last) => Outcome::Conflict {

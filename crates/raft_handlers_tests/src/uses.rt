@@ -13,8 +13,8 @@ ghost use Rattle.raft_state.specs.raft_state.Sound.{purged_or_logged};
 use raft_base::leader_id_std::{CommittedLeaderId, LeaderId};
 use raft_base::{EmptyNode, Instant, LeaderIdentity, LogIdOf, Node, NodeId};
 use raft_handlers::{
-    AppendEntries, Candidate, HandlerError, Leader, Outcome, State, VoteRequest,
-    handle_append_entries, handle_vote_request,
+    AppendEntries, AppendError, CampaignError, Candidate, HandlerError, Leader, Outcome, State,
+    VoteRequest, handle_append_entries, handle_vote_request,
 };
 use raft_state::EntryOf;
 
@@ -30,13 +30,13 @@ pub fn votes(state: &mut Server, request: &VoteRequest<LeaderId<u64>, CommittedL
 }
 
 /// Whether the log of a follower matches that of its leader now.
-pub fn follows(state: &mut Server, request: &Append) -> Result<bool, HandlerError> {
+pub fn follows(state: &mut Server, request: &Append) -> Result<bool, AppendError> {
     let (response, _changes) = handle_append_entries(state, request)?;
     Ok(matches!(response.outcome, Outcome::Matches(_)))
 }
 
 /// Whether a node is elected by its own vote. The only voter is.
-pub fn elects_itself(id: u64, state: &mut Server) -> Result<bool, HandlerError>
+pub fn elects_itself(id: u64, state: &mut Server) -> Result<bool, CampaignError>
     ensures alone { (in_effect state.old.membership_state).configs ≡ (id ∷ []) ∷ [] →
         IfOk result (λ is_elected. IsTrue is_elected) }
 {

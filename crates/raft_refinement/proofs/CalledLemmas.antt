@@ -36,12 +36,13 @@ use Rattle.raft_handlers.specs.Responses.{SendsNext}
 use Rattle.raft_handlers.specs.Restart.{Restores}
 use Rattle.raft_handlers.specs.Snapshot.{AnswersSnapshot, RefusedFor, snapshot_refusal}
 use Rattle.raft_handlers.specs.Vote.{Grants}
-use Rattle.raft_handlers.specs.declared.error.HandlerError.{HandlerError}
+use Rattle.raft_handlers.specs.declared.error.AppendError.{AppendError}
 use Rattle.raft_handlers.specs.declared.message.AppendEntries.{AppendEntries}
 use Rattle.raft_handlers.specs.declared.message.InstallSnapshot.{InstallSnapshot}
 use Rattle.raft_handlers.specs.declared.message.Outcome.{Outcome}
 use Rattle.raft_handlers.specs.declared.message.Outcome.TheVariants.{HigherVote, Matches}
 use Rattle.raft_handlers.specs.declared.message.Response.{Response}
+use Rattle.raft_handlers.specs.declared.error.SnapshotError.{SnapshotError}
 use Rattle.raft_handlers.specs.declared.message.VoteRequest.{VoteRequest}
 use Rattle.raft_handlers.specs.declared.message.VoteResponse.{VoteResponse}
 use Rattle.raft_progress.specs.progress.Comparisons.{OrdMembers}
@@ -161,7 +162,7 @@ module _ {K N L C : Type 0} (I D : Type 0) (ids : OrdMembers K) (node_eq : N →
 
   pub append_steps : {X : Type 0} (nothing : X) (request : AppendEntries L C K N D) (old new : RaftStateIn K N I L C) → Keeps logs old new
       → new.vote ≡ vote_heard kind.order request.leader_id old → new.purged_next ≡ old.purged_next
-      → (r : Result (Response L C × X) HandlerError) → (is_followed kind.order request.leader_id old ≡ false → r ≡ Ok (
+      → (r : Result (Response L C × X) AppendError) → (is_followed kind.order request.leader_id old ≡ false → r ≡ Ok (
         record {
           leader_id = kind.committed request.leader_id;
           request = request.request;
@@ -172,7 +173,7 @@ module _ {K N L C : Type 0} (I D : Type 0) (ids : OrdMembers K) (node_eq : N →
       → IfOk r (λ made. Answers logs ids.eq node_eq request made.0.outcome old new)
       → IfOk r (λ made. AppendIsStep D ids node_eq kind logs request old made.0.outcome new)
   append_steps nothing request old new keeps vote purged (Ok made) not_followed answers =
-      append_step request old new made.0.outcome keeps vote (λ none. same_outcome made _ (not_followed none)) answers purged
+      append_step request old new made.0.outcome keeps vote (λ none. same_outcome AppendError made _ (not_followed none)) answers purged
   append_steps nothing request old new keeps vote purged (Err e) not_followed answers = tt
 
   install_step : (request : InstallSnapshot L C K N) (old new : RaftStateIn K N I L C) (outcome : Outcome L C) → Keeps logs old new
@@ -203,7 +204,7 @@ module _ {K N L C : Type 0} (I D : Type 0) (ids : OrdMembers K) (node_eq : N →
       }))
 
   pub install_steps : {X : Type 0} (nothing : X) (request : InstallSnapshot L C K N) (old new : RaftStateIn K N I L C) → Keeps logs old new
-      → (r : Result (Response L C × X) HandlerError) → (is_followed kind.order request.leader_id old ≡ false → r ≡ Ok (
+      → (r : Result (Response L C × X) SnapshotError) → (is_followed kind.order request.leader_id old ≡ false → r ≡ Ok (
         record {
           leader_id = kind.committed request.leader_id;
           request = Some request.request;
@@ -217,7 +218,7 @@ module _ {K N L C : Type 0} (I D : Type 0) (ids : OrdMembers K) (node_eq : N →
       → RefusedFor (snapshot_refusal kind.order logs.cmp logs.eq request.leader_id request.meta old) r
       → IfOk r (λ made. InstallIsStep D ids node_eq kind logs request old made.0.outcome new)
   install_steps nothing request old new keeps (Ok made) not_followed followed answers refused =
-      install_step request old new made.0.outcome keeps (λ none. same_outcome made _ (not_followed none)) followed answers
+      install_step request old new made.0.outcome keeps (λ none. same_outcome SnapshotError made _ (not_followed none)) followed answers
       (no_reason (snapshot_refusal kind.order logs.cmp logs.eq request.leader_id request.meta old) made refused)
   install_steps nothing request old new keeps (Err e) not_followed followed answers refused = tt
 
@@ -262,7 +263,7 @@ module _ {K N L C : Type 0} (I D : Type 0) (ids : OrdMembers K) (node_eq : N →
       }))
 
   pub campaign_steps : (s : K) (greatest : ℕ) (old new : RaftStateIn K N I L C) → Keeps logs old new
-      → (r : Result (Campaign K N L C) HandlerError) → IfOk r (Campaigns (compared ids node_eq kind logs) s greatest old new)
+      → {F : Type 0} (r : Result (Campaign K N L C) F) → IfOk r (Campaigns (compared ids node_eq kind logs) s greatest old new)
       → IfOk r (λ made. CampaignIsStep D ids node_eq kind logs s old made new)
   campaign_steps s greatest old new keeps (Ok made) call = campaign_step s greatest old new made keeps call
   campaign_steps s greatest old new keeps (Err e) call = tt
@@ -303,7 +304,7 @@ module _ {K N L C : Type 0} (I D : Type 0) (ids : OrdMembers K) (node_eq : N →
       }))
 
   pub election_steps : (candidate : Campaign K N L C) (old new : RaftStateIn K N I L C) → Keeps logs old new
-      → (r : Result (Leadership K N C) HandlerError) → IfOk r (BecomesLeader (compared ids node_eq kind logs) candidate old new)
+      → {F : Type 0} (r : Result (Leadership K N C) F) → IfOk r (BecomesLeader (compared ids node_eq kind logs) candidate old new)
       → IfOk r (λ _. ElectionIsStep D ids node_eq kind logs candidate old new)
   election_steps candidate old new keeps (Ok made) call = election_step candidate old new made keeps call
   election_steps candidate old new keeps (Err e) call = tt
@@ -332,7 +333,7 @@ module _ {K N L C : Type 0} (I D : Type 0) (ids : OrdMembers K) (node_eq : N →
       }))
 
   pub proposal_steps : (leader : Leadership K N C) (payload : EntryPayload K N D) (old new : RaftStateIn K N I L C) → Keeps logs old new
-      → (r : Result (EntryOf C K N D) HandlerError) → IfOk r (AppendsOwn (compared ids node_eq kind logs) leader payload old new)
+      → {F : Type 0} (r : Result (EntryOf C K N D) F) → IfOk r (AppendsOwn (compared ids node_eq kind logs) leader payload old new)
       → payload_membership payload ≡ None → IfOk r (λ _. ProposalIsStep D ids node_eq kind logs leader old new)
   proposal_steps leader payload old new keeps (Ok entry) call plain = proposal_step leader payload old new entry keeps call plain
   proposal_steps leader payload old new keeps (Err e) call plain = tt
@@ -388,7 +389,7 @@ module _ {K N L C : Type 0} (I D : Type 0) (ids : OrdMembers K) (node_eq : N →
         sends = at.sent;
       }))
 
-  pub commit_steps : (leader : Leadership K N C) (old new : RaftStateIn K N I L C) → Keeps logs old new → (r : Result Bool HandlerError)
+  pub commit_steps : (leader : Leadership K N C) (old new : RaftStateIn K N I L C) → Keeps logs old new → {F : Type 0} (r : Result Bool F)
       → IfOk r (Commits ids.eq logs leader old new) → IfOk r (λ _. CommitIsStep D ids node_eq kind logs leader old new)
   commit_steps leader old new keeps (Ok more) call = commit_step leader old new more keeps call
   commit_steps leader old new keeps (Err e) call = tt

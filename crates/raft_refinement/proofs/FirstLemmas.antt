@@ -6,7 +6,6 @@ use Rattle.raft_base.specs.declared.log_id.LogIdOf.{LogIdOf}
 use Rattle.raft_base.specs.declared.vote.VoteIn.{VoteIn}
 use Rattle.raft_handlers.specs.Compared.{LeaderMembers}
 use Rattle.raft_handlers.specs.Start.{first_log_id}
-use Rattle.raft_handlers.specs.declared.error.HandlerError.{HandlerError}
 use Rattle.raft_progress.specs.progress.Comparisons.{OrdMembers}
 use Rattle.raft_state.specs.log_id_list.FullLog.{full_log}
 use Rattle.raft_state.specs.log_id_list.Keys.{may_be_keys}
@@ -32,7 +31,7 @@ module _ {K N I L C : Type 0} (kind : LeaderMembers L K C) (logs : OrdMembers C)
   pub started_server : (start : L) (old new : RaftStateIn K N I L C) → IsNewServer kind logs start old
       → (IsSound logs.eq logs.cmp old → IsSound logs.eq logs.cmp new) → may_be_keys logs.cmp new.log_ids ≡ true
       → new ≡ record old { log_ids = new.log_ids; membership_state = new.membership_state }
-      → {X : Type 0} (P : X → Type 0) (r : Result X HandlerError) → IfOk r P
+      → {X F : Type 0} (P : X → Type 0) (r : Result X F) → IfOk r P
       → ((x : X) → P x → full_log new.log_ids ≡ first_log_id (kind.committed (vote_of old).leader_id) ∷ [])
       → OnErr r (new ≡ old) → IsNewServer kind logs start new
   started_server start old new is sound keys rest P (Ok x) starts log err = record {

@@ -29,8 +29,8 @@ use Rattle.raft_base.specs.declared.log_id.LogIdOf.{LogIdOf}
 use Rattle.raft_handlers.specs.Compared.{LeaderMembers, compared}
 use Rattle.raft_handlers.specs.Leadership.{Leadership, WritesEntry, entry_of, flushed_entry}
 use Rattle.raft_handlers.specs.Responses.{TakesResponse, after_outcome, after_response, answers, as_refused, end_after, with_hint}
-use Rattle.raft_handlers.specs.declared.error.HandlerError.{HandlerError}
-use Rattle.raft_handlers.specs.declared.error.HandlerError.TheVariants.{ForeignResponse, UnknownMember}
+use Rattle.raft_handlers.specs.declared.error.ResponseError.{ResponseError}
+use Rattle.raft_handlers.specs.declared.error.ResponseError.TheVariants.{Foreign, UnknownMember}
 use Rattle.raft_handlers.specs.declared.message.Outcome.{Outcome}
 use Rattle.raft_handlers.specs.declared.message.Outcome.TheVariants.{Conflict, HigherVote, Matches}
 use Rattle.raft_handlers.specs.declared.message.Response.{Response}
@@ -214,7 +214,7 @@ module _ {K N I L C E : Type 0} (ids : OrdMembers K) (node_eq : N → N → Bool
           (subst (λ (o : Option (LogIdOf C)). none_or_logged logs.eq (log_view_of s) o ≡ true) e logged) in
           rw log (is.server.log.each m.index m found)
 
-  pub flush_counted : {X : Type 0} (r : Result X HandlerError)
+  pub flush_counted : {X F : Type 0} (r : Result X F)
       → OnOk r (none_or_logged logs.eq (log_view_of s) upto ≡ true)
       → OnOk r ((entry : ProgressEntryOf C) → entry_of ids.eq old old.id ≡ Some entry → id_le logs.cmp entry.matching upto ≡ true
       → WritesEntry ids.eq old old.id (flushed_entry upto) new)
@@ -336,16 +336,16 @@ module _ {K N L C : Type 0} (eq : K → K → Bool) (logs : OrdMembers C) (old n
     pub after : after_response logs.cmp entry response ≡ Ok next
     pub writes : WritesEntry eq old from next new
 
-  taken_or_same : (r : Result (Unit {0}) HandlerError) → TakesResponse eq logs from response old new r → (new ≡ old) ⊎ IsTaken
+  taken_or_same : (r : Result (Unit {0}) ResponseError) → TakesResponse eq logs from response old new r → (new ≡ old) ⊎ IsTaken
   taken_or_same (Err e) takes = inl takes.err
   taken_or_same (Ok x) takes = by (answers logs.eq response old) refl
     where
-      refused : (e : HandlerError) → (let r : Result (Unit {0}) HandlerError = Ok x in
+      refused : (e : ResponseError) → (let r : Result (Unit {0}) ResponseError = Ok x in
           r ≡ Err e) → (new ≡ old) ⊎ IsTaken
       refused e is = cc
 
       with_next : answers logs.eq response old ≡ true → (entry : ProgressEntryOf C) → entry_of eq old from ≡ Some entry
-          → (r : Result (ProgressEntryOf C) HandlerError) → after_response logs.cmp entry response ≡ r → (new ≡ old) ⊎ IsTaken
+          → (r : Result (ProgressEntryOf C) ResponseError) → after_response logs.cmp entry response ≡ r → (new ≡ old) ⊎ IsTaken
       with_next mine entry f (Err e) is = refused e (takes.refused entry e mine f is)
       with_next mine entry f (Ok next) is =
           inr (record {
@@ -363,11 +363,11 @@ module _ {K N L C : Type 0} (eq : K → K → Bool) (logs : OrdMembers C) (old n
       with_entry mine (Some entry) f = with_next mine entry f (after_response logs.cmp entry response) refl
 
       by : (b : Bool) → answers logs.eq response old ≡ b → (new ≡ old) ⊎ IsTaken
-      by false e = refused ForeignResponse (takes.foreign e)
+      by false e = refused Foreign (takes.foreign e)
       by true e = with_entry e (entry_of eq old from) refl
 
   -- a response changes no membership
-  pub response_members : (r : Result (Unit {0}) HandlerError) → TakesResponse eq logs from response old new r
+  pub response_members : (r : Result (Unit {0}) ResponseError) → TakesResponse eq logs from response old new r
       → new.followers.membership ≡ old.followers.membership
   response_members r takes = by (taken_or_same r takes)
     where
@@ -376,7 +376,7 @@ module _ {K N L C : Type 0} (eq : K → K → Bool) (logs : OrdMembers C) (old n
       by (inr is) = is.writes.member.members
 
   -- and nothing but what is known of the members
-  pub response_node : (r : Result (Unit {0}) HandlerError) → TakesResponse eq logs from response old new r
+  pub response_node : (r : Result (Unit {0}) ResponseError) → TakesResponse eq logs from response old new r
       → new ≡ record old { followers = new.followers }
   response_node r takes = by (taken_or_same r takes)
     where
@@ -436,7 +436,7 @@ module _ {K N L C E : Type 0} (k : Leaders L C K) (p : Place L C K E) (ids : K �
     acked = λ m e. acked mine m (is.0, is.1 ∙ ap (λ (x : Option (LogIdOf C)). let y : Outcome L C = Matches x in y) e);
   }
 
-  pub response_counted : (r : Result (Unit {0}) HandlerError) → TakesResponse ids logs from response old new r → KnowsAfter
+  pub response_counted : (r : Result (Unit {0}) ResponseError) → TakesResponse ids logs from response old new r → KnowsAfter
   response_counted r takes = by (taken_or_same ids logs old new from response r takes)
     where
       by : (new ≡ old) ⊎ IsTaken ids logs old new from response → KnowsAfter

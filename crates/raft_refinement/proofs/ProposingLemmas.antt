@@ -36,7 +36,6 @@ use Rattle.raft_base.specs.declared.log_id.LogIdOf.{LogIdOf}
 use Rattle.raft_handlers.specs.Compared.{LeaderMembers, compared}
 use Rattle.raft_handlers.specs.Leadership.{Leadership}
 use Rattle.raft_handlers.specs.Proposals.{AppendsOwn}
-use Rattle.raft_handlers.specs.declared.error.HandlerError.{HandlerError}
 use Rattle.raft_progress.specs.progress.Comparisons.{OrdMembers}
 use Rattle.raft_safety.specs.Events.{Ack, Append, Event, log_after}
 use Rattle.raft_safety.specs.Facts.{IsElected}
@@ -220,7 +219,7 @@ module _ {K N I L C E : Type 0} (ids : OrdMembers K) (node_eq : N → N → Bool
           (ap (λ (s : RaftStateIn K N I L C). s.committed) call.rest)))
           (proposes_by_rule (leaders_of (compared ids node_eq kind logs)) p (seen old) is leads.0.0 el in_terms last e content log)
 
-  pub proposals_by_rule : {D : Type 0} (payload : EntryPayload K N D) (r : Result (EntryOf C K N D) HandlerError)
+  pub proposals_by_rule : {D F : Type 0} (payload : EntryPayload K N D) (r : Result (EntryOf C K N D) F)
       → IfOk r (AppendsOwn (compared ids node_eq kind logs) leader payload old new) → IfOk r (λ _. Proposed)
   proposals_by_rule payload (Ok entry) call = proposed payload entry call
   proposals_by_rule payload (Err e) call = tt

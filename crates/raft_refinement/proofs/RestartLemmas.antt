@@ -6,7 +6,6 @@ use Rattle.raft_base.specs.declared.log_id.LogIdOf.{LogIdOf}
 use Rattle.raft_base.specs.declared.vote.VoteIn.{VoteIn}
 use Rattle.raft_handlers.specs.Compared.{LeaderMembers, compared}
 use Rattle.raft_handlers.specs.Restart.{Restores}
-use Rattle.raft_handlers.specs.declared.error.HandlerError.{HandlerError}
 use Rattle.raft_progress.specs.progress.Comparisons.{OrdMembers}
 use Rattle.raft_safety.specs.Events.{log_after}
 use Rattle.raft_state.specs.log_id_list.FullLog.{full_log}
@@ -63,7 +62,7 @@ module _ {K N I L C D E : Type 0} (ids : OrdMembers K) (node_eq : N → N → Bo
       log_is : full_log new.log_ids ≡ disk_ids logs.eq meta stored
       log_is = same_logs logs.eq is.ranked.same _ _ (says_same logs.eq _ _ call.log)
 
-  pub restarts_by_rule : (r : Result (RaftStateIn K N I L C) HandlerError) → IfOk r (λ new. vote_of new ≡ vote)
+  pub restarts_by_rule : {F : Type 0} (r : Result (RaftStateIn K N I L C) F) → IfOk r (λ new. vote_of new ≡ vote)
       → IfOk r (Restores logs ids.eq node_eq meta stored known)
       → IfOk r (λ new. RestartsAs (leaders_of (compared ids node_eq kind logs)) p old (seen new))
   restarts_by_rule (Ok new) voted call = restored new voted call

@@ -44,10 +44,10 @@ use Rattle.raft_handlers.specs.Compared.{LeaderMembers, compared}
 use Rattle.raft_handlers.specs.Entries.{entry_ids}
 use Rattle.raft_handlers.specs.Follow.{elected, heard, is_followed, vote_heard}
 use Rattle.raft_handlers.specs.Snapshot.{Installs, snapshot_refusal}
-use Rattle.raft_handlers.specs.declared.error.HandlerError.TheVariants.{SnapshotDoesNotFit}
 use Rattle.raft_handlers.specs.declared.message.AppendEntries.{AppendEntries}
 use Rattle.raft_handlers.specs.declared.message.Outcome.{Outcome}
 use Rattle.raft_handlers.specs.declared.message.Outcome.TheVariants.{Conflict, HigherVote, Matches}
+use Rattle.raft_handlers.specs.declared.error.SnapshotError.TheVariants.{DoesNotFit}
 use Rattle.raft_progress.specs.progress.Comparisons.{OrdMembers}
 use Rattle.raft_state.specs.SnapshotMeta.{IsSnapshotCopy}
 use Rattle.raft_state.specs.log_id_list.FullLog.{end_index, first_index, full_log}
@@ -337,7 +337,7 @@ exact_found eq exact (Some y) x h =
     λ i. Some (record { leader_id = a i; index = b i })
 
 refused_not : (followed past may : Bool) → followed ≡ true → past ≡ true
-    → (if followed then (if past && not may then Some SnapshotDoesNotFit else None) else None) ≡ None → may ≡ true
+    → (if followed then (if past && not may then Some DoesNotFit else None) else None) ≡ None → may ≡ true
 refused_not true true true a b h = refl
 refused_not true true false a b h = cc
 refused_not true false may a b h = absurd (false≢true b)

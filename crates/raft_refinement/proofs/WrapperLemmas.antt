@@ -40,12 +40,13 @@ use Rattle.raft_handlers.specs.Entries.{entry_ids}
 use Rattle.raft_handlers.specs.Follow.{elected, heard, is_followed, vote_heard}
 use Rattle.raft_handlers.specs.Leadership.{BecomesLeader, Commits, Leadership, MajorityMatches, entry_of, granted_by, is_of_leader}
 use Rattle.raft_handlers.specs.Snapshot.{AnswersSnapshot, RefusedFor, snapshot_refusal}
-use Rattle.raft_handlers.specs.declared.error.HandlerError.{HandlerError}
+use Rattle.raft_handlers.specs.declared.error.AppendError.{AppendError}
 use Rattle.raft_handlers.specs.declared.message.AppendEntries.{AppendEntries}
 use Rattle.raft_handlers.specs.declared.message.InstallSnapshot.{InstallSnapshot}
 use Rattle.raft_handlers.specs.declared.message.Outcome.{Outcome}
 use Rattle.raft_handlers.specs.declared.message.Outcome.TheVariants.{Conflict, HigherVote, Matches}
 use Rattle.raft_handlers.specs.declared.message.Response.{Response}
+use Rattle.raft_handlers.specs.declared.error.SnapshotError.{SnapshotError}
 use Rattle.raft_handlers.specs.declared.message.VoteResponse.{VoteResponse}
 use Rattle.raft_members.specs.quorum.Majority.{is_joint_majority}
 use Rattle.raft_progress.specs.progress.Comparisons.{OrdMembers}
@@ -87,9 +88,9 @@ use Rattle.raft_refinement.proofs.SeenLemmas.{
 }
 use Rattle.raft_refinement.proofs.VotingLemmas.{campaigns_keep_rule, hears_by_rule}
 
-pub same_outcome : {L C X : Type 0} (x y : Response L C × X) → (let a : Result (Response L C × X) HandlerError = Ok x in
-    let b : Result (Response L C × X) HandlerError = Ok y in a ≡ b) → x.0.outcome ≡ y.0.outcome
-same_outcome {L} {C} {X} x y e = let same : x ≡ y = cc in ap (λ (z : Response L C × X). z.0.outcome) same
+pub same_outcome : {L C X : Type 0} (F : Type 0) (x y : Response L C × X) → (let a : Result (Response L C × X) F = Ok x in
+    let b : Result (Response L C × X) F = Ok y in a ≡ b) → x.0.outcome ≡ y.0.outcome
+same_outcome {L} {C} {X} F x y e = let same : x ≡ y = cc in ap (λ (z : Response L C × X). z.0.outcome) same
 
 module _ {K N I L C D E : Type 0} (ids : OrdMembers K) (node_eq : N → N → Bool) (kind : LeaderMembers L K C) (logs : OrdMembers C)
     (p : Place L C K E) (old new : RaftStateIn K N I L C) (request : AppendEntries L C K N D)
@@ -134,7 +135,7 @@ module _ {K N I L C D E : Type 0} (ids : OrdMembers K) (node_eq : N → N → Bo
           (p.history.events p.server)) (sym answers.1) is.server
 
   -- the response of a call is by the rules
-  pub appends_by_rule : {X : Type 0} (nothing : X) (r : Result (Response L C × X) HandlerError)
+  pub appends_by_rule : {X : Type 0} (nothing : X) (r : Result (Response L C × X) AppendError)
       → (is_followed kind.order request.leader_id old ≡ false → r ≡ Ok (
         record {
           leader_id = kind.committed request.leader_id;
@@ -147,7 +148,7 @@ module _ {K N I L C D E : Type 0} (ids : OrdMembers K) (node_eq : N → N → Bo
       → IfOk r (λ made. AnswersByRule (leaders_of (compared ids node_eq kind logs)) p request.leader_id made.0.outcome
       (p.history.events p.server) (seen new))
   appends_by_rule nothing (Ok made) not_followed answers =
-      append_by_rule made.0.outcome (λ none. same_outcome made _ (not_followed none)) answers
+      append_by_rule made.0.outcome (λ none. same_outcome AppendError made _ (not_followed none)) answers
   appends_by_rule nothing (Err e) not_followed answers = tt
 
 -- a leader that is not followed changes nothing
@@ -161,7 +162,7 @@ unheard kind leader s none = by (is_followed kind.order leader s) none
     by true e = absurd (true≢false e)
 
 -- a call that returns a response has no reason to refuse
-pub no_reason : {T : Type 0} (o : Option HandlerError) (x : T) → (let r : Result T HandlerError = Ok x in
+pub no_reason : {T : Type 0} (o : Option SnapshotError) (x : T) → (let r : Result T SnapshotError = Ok x in
     RefusedFor o r)
     → o ≡ None
 no_reason None x h = refl
@@ -201,7 +202,7 @@ module _ {K N I L C E : Type 0} {ids : OrdMembers K} (node_eq : N → N → Bool
       (sym (answers.1 ∙ unheard kind request.leader_id old followed)) is.server
 
   -- the response of a call is by the rules
-  pub installs_by_rule : {X : Type 0} (nothing : X) (r : Result (Response L C × X) HandlerError)
+  pub installs_by_rule : {X : Type 0} (nothing : X) (r : Result (Response L C × X) SnapshotError)
       → (is_followed kind.order request.leader_id old ≡ false → r ≡ Ok (
         record {
           leader_id = kind.committed request.leader_id;
@@ -217,7 +218,7 @@ module _ {K N I L C E : Type 0} {ids : OrdMembers K} (node_eq : N → N → Bool
       → IfOk r (λ made. AnswersByRule (leaders_of (compared ids node_eq kind logs)) p request.leader_id made.0.outcome
       (p.history.events p.server) (seen new))
   installs_by_rule nothing (Ok made) not_followed followed answers refused =
-      install_by_rule made.0.outcome (λ none. same_outcome made _ (not_followed none)) followed answers
+      install_by_rule made.0.outcome (λ none. same_outcome SnapshotError made _ (not_followed none)) followed answers
       (no_reason (snapshot_refusal kind.order logs.cmp logs.eq request.leader_id request.meta old) made refused)
   installs_by_rule nothing (Err e) not_followed followed answers refused = tt
 
@@ -288,7 +289,7 @@ module _ {K N I L C E : Type 0} (ids : OrdMembers K) (node_eq : N → N → Bool
             ∙ ap (λ (x : VoteIn L). let s : State L C = record (seen old) { vote = x } in s)
             (same_votes made.vote (record { leader_id = made.vote.leader_id; committed = false }) refl uncommitted)
 
-    pub campaigns_by_rule : (r : Result (Campaign K N L C) HandlerError)
+    pub campaigns_by_rule : {F : Type 0} (r : Result (Campaign K N L C) F)
         → IfOk r (Campaigns (compared ids node_eq kind logs) id greatest old new)
         → IfOk r (λ made. IsAmong made.vote.leader_id p.leaders
         → p.history.candidate_log (kind.committed made.vote.leader_id) p.server ≡ log_after (p.history.events p.server)
@@ -302,7 +303,7 @@ module _ {K N I L C E : Type 0} (ids : OrdMembers K) (node_eq : N → N → Bool
       (knows : KnowsVotes (leaders_of (compared ids node_eq kind logs)) p candidate.vote.leader_id p.server (has_vote_of ids.eq candidate))
       (configs : (set : K → Bool) → p.quorum (p.history.candidate_log (kind.committed candidate.vote.leader_id) p.server) set
       ≡ is_joint_majority ids.eq candidate.votes.membership.configs set) where
-    pub leader_elected : (r : Result (Leadership K N C) HandlerError)
+    pub leader_elected : {F : Type 0} (r : Result (Leadership K N C) F)
         → IfOk r (BecomesLeader (compared ids node_eq kind logs) candidate old new)
         → IfOk r (λ _. IsElected p.rank p.quorum p.history (kind.committed candidate.vote.leader_id) p.server)
     leader_elected (Ok made) call =
@@ -311,7 +312,7 @@ module _ {K N I L C E : Type 0} (ids : OrdMembers K) (node_eq : N → N → Bool
         (configs (has_vote_of ids.eq candidate) ∙ call.elected.majority)
     leader_elected (Err e) call = tt
 
-    pub leader_serves : (r : Result (Leadership K N C) HandlerError)
+    pub leader_serves : {F : Type 0} (r : Result (Leadership K N C) F)
         → IfOk r (BecomesLeader (compared ids node_eq kind logs) candidate old new)
         → IfOk r (λ _. IsServer (leaders_of (compared ids node_eq kind logs)) p (seen new) (p.history.events p.server))
     leader_serves (Ok made) call =
@@ -459,7 +460,7 @@ module _ {K N I L C E : Type 0} (ids : OrdMembers K) (node_eq : N → N → Bool
                   (is.lawful.servers p.server) knows.elected.for_itself;
             }
 
-    pub committed_by_rule : (r : Result Bool HandlerError) → IfOk r (Commits ids.eq logs leader old new)
+    pub committed_by_rule : {F : Type 0} (r : Result Bool F) → IfOk r (Commits ids.eq logs leader old new)
         → IfOk r (λ more. more ≡ true → (id : LogIdOf C) × (granted_by leader ≡ Some id)
         × HasCommitted (leaders_of (compared ids node_eq kind logs)) p (vote_of old).leader_id id (p.history.events p.server) (seen new))
     committed_by_rule (Ok more) call = commit_by_rule more call
@@ -468,7 +469,7 @@ module _ {K N I L C E : Type 0} (ids : OrdMembers K) (node_eq : N → N → Bool
 -- a new leader counts no match
 module _ {K N I L C : Type 0} (ids : OrdMembers K) (node_eq : N → N → Bool) (kind : LeaderMembers L K C) (logs : OrdMembers C)
     (old new : RaftStateIn K N I L C) (candidate : Campaign K N L C) where
-  pub leader_counts_none : (r : Result (Leadership K N C) HandlerError)
+  pub leader_counts_none : {F : Type 0} (r : Result (Leadership K N C) F)
       → IfOk r (BecomesLeader (compared ids node_eq kind logs) candidate old new)
       → IfOk r (λ made. (v : K) → match_of (entry_of ids.eq made v) ≡ None)
   leader_counts_none (Ok made) call = λ v. by v (entry_of ids.eq made v) refl

@@ -14,7 +14,7 @@ ghost use Rattle.raft_safety.specs.Facts.{HasVoted, IsElected};
 ghost use Rattle.raft_safety.specs.Ranks.{IsAmong};
 
 use raft_base::{Instant, LeaderIdentity, Node, NodeId};
-use raft_handlers::{Candidate, HandlerError, Leader, State, VoteResponse};
+use raft_handlers::{CampaignError, Candidate, LeadError, Leader, State, VoteResponse};
 
 /// Begins a campaign, as `Candidate::campaign` does, and keeps rule 1: the server may vote for
 /// itself, with its log as it is.
@@ -29,7 +29,7 @@ pub fn campaigns<
     id: NID,
     greatest_term: u64,
     state: &mut State<NID, N, I, L>,
-) -> Result<Candidate<NID, N, L, C>, HandlerError>
+) -> Result<Candidate<NID, N, L, C>, CampaignError>
     ghost p: { Place L C NID D }
     requires clones_are_equal { ClonesAreEqual N.eq N.is_clone }
     requires own { id ≡ p.server }
@@ -84,7 +84,7 @@ pub fn leads<
 >(
     state: &mut State<NID, N, I, L>,
     candidate: &Candidate<NID, N, L, C>,
-) -> Result<Leader<NID, N, C>, HandlerError>
+) -> Result<Leader<NID, N, C>, LeadError>
     ghost p: { Place L C NID D }
     requires clones_are_equal { ClonesAreEqual N.eq N.is_clone }
     requires server { let by = compared NID.Ord N.eq L.LeaderIdentity C.Ord in

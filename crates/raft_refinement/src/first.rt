@@ -6,7 +6,7 @@ ghost use Rattle.raft_refinement.specs.Running.{IsNewServer};
 ghost use Rattle.raft_state.specs.raft_state.VoteAndLog.{vote_of};
 
 use raft_base::{Instant, LeaderIdentity, Node, NodeId};
-use raft_handlers::{HandlerError, State, start_cluster};
+use raft_handlers::{StartError, State, start_cluster};
 use raft_members::Membership;
 use raft_state::EntryOf;
 use std::alloc::{AllocError, Global};
@@ -32,7 +32,7 @@ pub fn starts<NID: NodeId, N: Node, I: Instant, L: LeaderIdentity<Id = NID> + Dr
     state: &mut State<NID, N, I, L>,
     id: &NID,
     membership: Membership<NID, N>,
-) -> Result<Vec<EntryOf<L::Committed, NID, N, D>>, HandlerError>
+) -> Result<Vec<EntryOf<L::Committed, NID, N, D>>, StartError>
     ghost start: { L }
     requires clones_are_equal { ClonesAreEqual N.eq N.is_clone }
     requires new { IsNewServer L.LeaderIdentity L.Committed.Ord start state.old }

@@ -10,8 +10,8 @@ ghost use Rattle.raft_state.specs.raft_state.Sound.{IsSound};
 
 use raft_base::{Instant, LeaderIdentity, Node, NodeId};
 use raft_handlers::{
-    AppendEntries, Changes, HandlerError, InstallSnapshot, Response, SnapshotChanges, State,
-    handle_append_entries, handle_install_snapshot,
+    AppendEntries, AppendError, Changes, InstallSnapshot, Response, SnapshotChanges, SnapshotError,
+    State, handle_append_entries, handle_install_snapshot,
 };
 
 /// Handles a leader's request to append entries, as `handle_append_entries` does, and keeps rules 4
@@ -19,7 +19,7 @@ use raft_handlers::{
 pub fn follows<NID: NodeId, N: Node, I: Instant, L: LeaderIdentity<Id = NID> + Drop, D, E>(
     state: &mut State<NID, N, I, L>,
     request: &AppendEntries<L, L::Committed, NID, N, D>,
-) -> Result<(Response<L, L::Committed>, Changes<L::Committed>), HandlerError>
+) -> Result<(Response<L, L::Committed>, Changes<L::Committed>), AppendError>
     ghost p: { Place L L.Committed NID E }
     requires clones_are_equal { ClonesAreEqual N.eq N.is_clone }
     requires sound { IsSound L.Committed.eq L.Committed.cmp state.old }
@@ -45,7 +45,7 @@ pub fn follows<NID: NodeId, N: Node, I: Instant, L: LeaderIdentity<Id = NID> + D
 pub fn installs<NID: NodeId, N: Node, I: Instant, L: LeaderIdentity<Id = NID> + Drop, E>(
     state: &mut State<NID, N, I, L>,
     request: &InstallSnapshot<L, L::Committed, NID, N>,
-) -> Result<(Response<L, L::Committed>, SnapshotChanges), HandlerError>
+) -> Result<(Response<L, L::Committed>, SnapshotChanges), SnapshotError>
     ghost p: { Place L L.Committed NID E }
     requires clones_are_equal { ClonesAreEqual N.eq N.is_clone }
     requires sound { IsSound L.Committed.eq L.Committed.cmp state.old }

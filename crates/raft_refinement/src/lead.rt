@@ -20,7 +20,9 @@ ghost use Rattle.raft_state.specs.raft_state.Sound.{IsSound};
 ghost use Rattle.raft_state.specs.raft_state.VoteAndLog.{vote_of};
 
 use raft_base::{Instant, LeaderIdentity, LogIdOf, Node, NodeId};
-use raft_handlers::{HandlerError, Leader, Response, State};
+use raft_handlers::{
+    CommitError, FlushError, Leader, ProposeError, Response, ResponseError, State,
+};
 use raft_progress::InflightOf;
 use raft_state::EntryOf;
 
@@ -37,7 +39,7 @@ pub fn flushes<
     leader: &mut Leader<NID, N, C>,
     state: &State<NID, N, I, L>,
     upto: Option<LogIdOf<C>>,
-) -> Result<(), HandlerError>
+) -> Result<(), FlushError>
     ghost p: { Place L C NID D }
     requires nodes { (x y : NID) → IsTrue (NID.eq x y) → x ≡ y }
     requires node { leader.old.id ≡ p.server }
@@ -70,7 +72,11 @@ pub fn takes<
     L: LeaderIdentity<Id = NID, Committed = C> + Drop,
     C: Ord + Copy + Default + Drop + 'static,
     D,
->(leader: &mut Leader<NID, N, C>, from: &NID, response: &Response<L, C>) -> Result<(), HandlerError>
+>(
+    leader: &mut Leader<NID, N, C>,
+    from: &NID,
+    response: &Response<L, C>,
+) -> Result<(), ResponseError>
     ghost at: { Place L C NID D × L }
     requires nodes { (x y : NID) → IsTrue (NID.eq x y) → x ≡ y }
     requires knows { let by = compared NID.Ord N.eq L.LeaderIdentity C.Ord in
@@ -167,7 +173,7 @@ pub fn commits<
     L: LeaderIdentity<Id = NID, Committed = C> + Drop,
     C: Ord + Copy + Default + Drop + 'static,
     D,
->(leader: &Leader<NID, N, C>, state: &mut State<NID, N, I, L>) -> Result<bool, HandlerError>
+>(leader: &Leader<NID, N, C>, state: &mut State<NID, N, I, L>) -> Result<bool, CommitError>
     ghost p: { Place L C NID D }
     requires server { let by = compared NID.Ord N.eq L.LeaderIdentity C.Ord in
         IsInHistory (leaders_of by) p (seen state.old) }
@@ -201,7 +207,7 @@ pub fn proposes_blank<
 >(
     leader: &Leader<NID, N, C>,
     state: &mut State<NID, N, I, L>,
-) -> Result<EntryOf<C, NID, N, D>, HandlerError>
+) -> Result<EntryOf<C, NID, N, D>, ProposeError>
     ghost p: { Place L C NID E }
     requires clones_are_equal { ClonesAreEqual N.eq N.is_clone }
     requires server { let by = compared NID.Ord N.eq L.LeaderIdentity C.Ord in
@@ -230,7 +236,7 @@ pub fn proposes<
     leader: &Leader<NID, N, C>,
     state: &mut State<NID, N, I, L>,
     data: D,
-) -> Result<EntryOf<C, NID, N, D>, HandlerError>
+) -> Result<EntryOf<C, NID, N, D>, ProposeError>
     ghost p: { Place L C NID E }
     requires clones_are_equal { ClonesAreEqual N.eq N.is_clone }
     requires server { let by = compared NID.Ord N.eq L.LeaderIdentity C.Ord in

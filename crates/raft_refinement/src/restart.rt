@@ -8,7 +8,7 @@ ghost use Rattle.raft_refinement.specs.Server.{IsInHistory, Place, State as Seen
 ghost use Rattle.raft_state.specs.raft_state.Sound.{IsSound};
 
 use raft_base::{Instant, LeaderIdentity, Node, NodeId};
-use raft_handlers::{HandlerError, State, Stored, restart_server};
+use raft_handlers::{RestartError, State, Stored, restart_server};
 use std::alloc::Global;
 
 /// Restarts a server, as `restart_server` does. If its disk has its vote and its log, the server has
@@ -19,7 +19,7 @@ use std::alloc::Global;
 pub fn restarts<NID: NodeId, N: Node, I: Instant, L: LeaderIdentity<Id = NID> + Drop, D, E>(
     alloc: Global,
     stored: &Stored<L, L::Committed, NID, N, D>,
-) -> Result<State<NID, N, I, L>, HandlerError>
+) -> Result<State<NID, N, I, L>, RestartError>
     ghost at: { Place L L.Committed NID E × SeenState L L.Committed }
     requires clones_are_equal { ClonesAreEqual N.eq N.is_clone }
     requires server { let by = compared NID.Ord N.eq L.LeaderIdentity L.Committed.Ord in

@@ -24,9 +24,10 @@ ghost use Rattle.raft_state.specs.declared.entry.payload.EntryPayload.TheVariant
 
 use raft_base::{Instant, LeaderIdentity, Node, NodeId, VoteIn};
 use raft_handlers::{
-    AppendEntries, Candidate, Changes, HandlerError, InstallSnapshot, Leader, Response,
-    SnapshotChanges, State, Stored, VoteRequest, VoteResponse, handle_append_entries,
-    handle_install_snapshot, handle_vote_request, restart_server,
+    AppendEntries, AppendError, CampaignError, Candidate, Changes, CommitError, InstallSnapshot,
+    LeadError, Leader, ProposeError, Response, RestartError, SnapshotChanges, SnapshotError, State,
+    Stored, VoteRequest, VoteResponse, handle_append_entries, handle_install_snapshot,
+    handle_vote_request, restart_server,
 };
 use raft_progress::InflightOf;
 use raft_state::EntryOf;
@@ -50,7 +51,7 @@ pub fn answers_candidate<NID: NodeId, N: Node, I: Instant, L: LeaderIdentity<Id 
 pub fn answers_leader<NID: NodeId, N: Node, I: Instant, L: LeaderIdentity<Id = NID> + Drop, D>(
     state: &mut State<NID, N, I, L>,
     request: &AppendEntries<L, L::Committed, NID, N, D>,
-) -> Result<(Response<L, L::Committed>, Changes<L::Committed>), HandlerError>
+) -> Result<(Response<L, L::Committed>, Changes<L::Committed>), AppendError>
     requires clones_are_equal { ClonesAreEqual N.eq N.is_clone }
     ensures step { IfOk result (λ made. AppendIsStep D NID.Ord N.eq L.LeaderIdentity L.Committed.Ord
         request.now state.old made.0.outcome state.new) }
@@ -66,7 +67,7 @@ pub fn answers_leader<NID: NodeId, N: Node, I: Instant, L: LeaderIdentity<Id = N
 pub fn answers_snapshot<NID: NodeId, N: Node, I: Instant, L: LeaderIdentity<Id = NID> + Drop, D>(
     state: &mut State<NID, N, I, L>,
     request: &InstallSnapshot<L, L::Committed, NID, N>,
-) -> Result<(Response<L, L::Committed>, SnapshotChanges), HandlerError>
+) -> Result<(Response<L, L::Committed>, SnapshotChanges), SnapshotError>
     requires clones_are_equal { ClonesAreEqual N.eq N.is_clone }
     ensures step { IfOk result (λ made. InstallIsStep D NID.Ord N.eq L.LeaderIdentity L.Committed.Ord
         request.now state.old made.0.outcome state.new) }
@@ -108,7 +109,7 @@ pub fn campaigns<
     id: NID,
     greatest_term: u64,
     state: &mut State<NID, N, I, L>,
-) -> Result<Candidate<NID, N, L, C>, HandlerError>
+) -> Result<Candidate<NID, N, L, C>, CampaignError>
     requires clones_are_equal { ClonesAreEqual N.eq N.is_clone }
     ensures step { IfOk result (λ made. CampaignIsStep D NID.Ord N.eq L.LeaderIdentity C.Ord
         id state.old made state.new) }
@@ -150,7 +151,7 @@ pub fn leads<
 >(
     state: &mut State<NID, N, I, L>,
     candidate: &Candidate<NID, N, L, C>,
-) -> Result<Leader<NID, N, C>, HandlerError>
+) -> Result<Leader<NID, N, C>, LeadError>
     requires clones_are_equal { ClonesAreEqual N.eq N.is_clone }
     ensures step { IfOk result (λ _. ElectionIsStep D NID.Ord N.eq L.LeaderIdentity C.Ord
         candidate.now state.old state.new) }
@@ -173,7 +174,7 @@ pub fn proposes_blank<
 >(
     leader: &Leader<NID, N, C>,
     state: &mut State<NID, N, I, L>,
-) -> Result<EntryOf<C, NID, N, D>, HandlerError>
+) -> Result<EntryOf<C, NID, N, D>, ProposeError>
     requires clones_are_equal { ClonesAreEqual N.eq N.is_clone }
     ensures step { IfOk result (λ _. ProposalIsStep D NID.Ord N.eq L.LeaderIdentity C.Ord
         leader.now state.old state.new) }
@@ -197,7 +198,7 @@ pub fn proposes<
     leader: &Leader<NID, N, C>,
     state: &mut State<NID, N, I, L>,
     data: D,
-) -> Result<EntryOf<C, NID, N, D>, HandlerError>
+) -> Result<EntryOf<C, NID, N, D>, ProposeError>
     requires clones_are_equal { ClonesAreEqual N.eq N.is_clone }
     ensures step { IfOk result (λ _. ProposalIsStep D NID.Ord N.eq L.LeaderIdentity C.Ord
         leader.now state.old state.new) }
@@ -239,7 +240,7 @@ pub fn commits<
     L: LeaderIdentity<Id = NID, Committed = C> + Drop,
     C: Ord + Copy + Default + Drop + 'static,
     D,
->(leader: &Leader<NID, N, C>, state: &mut State<NID, N, I, L>) -> Result<bool, HandlerError>
+>(leader: &Leader<NID, N, C>, state: &mut State<NID, N, I, L>) -> Result<bool, CommitError>
     ensures step { IfOk result (λ _. CommitIsStep D NID.Ord N.eq L.LeaderIdentity C.Ord
         leader.now state.old state.new) }
     ensures call { IfOk result (Commits NID.eq C.Ord leader.now state.old state.new) }
@@ -253,7 +254,7 @@ pub fn commits<
 pub fn restarts<NID: NodeId, N: Node, I: Instant, L: LeaderIdentity<Id = NID> + Drop, D>(
     alloc: Global,
     stored: &Stored<L, L::Committed, NID, N, D>,
-) -> Result<State<NID, N, I, L>, HandlerError>
+) -> Result<State<NID, N, I, L>, RestartError>
     requires clones_are_equal { ClonesAreEqual N.eq N.is_clone }
     ensures step { IfOk result (λ state. RestartIsStep D NID.Ord N.eq L.LeaderIdentity L.Committed.Ord
         stored.now.vote stored.now.snapshot stored.now.entries.items state) }

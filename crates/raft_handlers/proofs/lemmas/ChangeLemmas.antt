@@ -29,7 +29,8 @@ use Rattle.raft_state.specs.declared.entry.payload.EntryPayload.TheVariants.{Mem
 use Rattle.raft_handlers.specs.Changes.{AppendsMembers, IsChangeRefusal, RefusesMembers, StoresMembership}
 use Rattle.raft_handlers.specs.Compared.{Compared}
 use Rattle.raft_handlers.specs.Leadership.{Leadership}
-use Rattle.raft_handlers.specs.Proposals.{AppendsOwn, AppendsPayload}
+use Rattle.raft_handlers.specs.Proposals.{AppendsOwn, AppendsPayload, RefusesOwn}
+use Rattle.raft_handlers.specs.declared.error.ProposeError.{ProposeError}
 use Rattle.raft_handlers.specs.declared.leader.change.ChangeError.{ChangeError}
 use Rattle.raft_handlers.specs.declared.leader.change.ChangeError.TheVariants.{Change, Entry, NoOwnGranted, NotJoint}
 
@@ -157,6 +158,11 @@ module _ {K N I L C : Type 0} (by : Compared K N L C) where
       err = h.err;
       err_state = h.err_state;
     }
+
+  -- a change whose entry is refused is refused with the entry's refusal
+  pub refuses_entry : (D : Type 0) (next : Members K N) (m : MemberList K N) (l : Leadership K N C) (old new : RaftStateIn K N I L C)
+      (e : ProposeError) → RefusesOwn by {D = D} l (Membership m) old new e → RefusesMembers by D true next l old l new (Entry e)
+  refuses_entry D next m l old new e h = record { refused = (m, h.refused); err = refl; err_state = h.err }
 
   -- an entry of the leader's own is appended with the payload that it has
   pub own_payload : {D : Type 0} (l : Leadership K N C) (payload : EntryPayload K N D) (old new : RaftStateIn K N I L C)

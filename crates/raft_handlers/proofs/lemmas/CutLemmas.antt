@@ -23,7 +23,7 @@ use Rattle.raft_handlers.specs.Entries.{
   tests_hold,
   RefusedUnless,
 }
-use Rattle.raft_handlers.specs.declared.error.HandlerError.{HandlerError}
+use Rattle.raft_handlers.specs.declared.error.AppendError.{AppendError}
 use Rattle.raft_members.specs.membership.Stored.{log_id_of}
 use Rattle.raft_progress.specs.progress.Comparisons.{OrdMembers}
 use Rattle.raft_state.proofs.lemmas.log_id_list.KeptLemmas.{front_reads}
@@ -83,13 +83,13 @@ truncated_cut {K} {N} {I} {L} {C} ord since old new ends can log is =
 
 -- a refusal because of the index of the first entry
 pub cut_refused : {K N I L C D : Type 0} (cmp : C → C → Ordering) (es : List (EntryOf C K N D)) (first : EntryOf C K N D)
-    (s : RaftStateIn K N I L C) (e : HandlerError) → slice_get es 0 ≡ Some first
+    (s : RaftStateIn K N I L C) (e : AppendError) → slice_get es 0 ≡ Some first
     → RefusedUnless (record tests_hold { keeps = may_cut cmp first.log_id.index s }) e → RefusedUnless (new_tests cmp es s) e
 cut_refused cmp [] first s e begins why = cc
 cut_refused cmp (x ∷ xs) first s e begins why =
     let is : x ≡ first = cc in
     refused_unless_more (record tests_hold { keeps = may_cut cmp first.log_id.index s }) (new_tests cmp (x ∷ xs) s)
-    (λ h. h) (λ h. rw is h) (λ h. absurd (true≢false h)) (λ h. absurd (true≢false h)) (λ h. h) e why
+    (λ h. rw is h) (λ h. absurd (true≢false h)) (λ h. absurd (true≢false h)) (λ h. h) e why
 
 -- a truncation and then an append change three fields
 pub append_rest : {K N I L C : Type 0} (old mid new : RaftStateIn K N I L C) → mid ≡ record old {
@@ -154,7 +154,7 @@ module _ {K N I L C D : Type 0} (ord : OrdMembers C) (id_eq : K → K → Bool) 
               rest = c.rest;
             }
 
-    pub end_refused : (e : HandlerError) → RefusedUnless (end_tests ord.cmp es mid) e → RefusedUnless (new_tests ord.cmp es old) e
+    pub end_refused : (e : AppendError) → RefusedUnless (end_tests ord.cmp es mid) e → RefusedUnless (new_tests ord.cmp es old) e
     end_refused e why = by es begins why
       where
         by : (xs : List (EntryOf C K N D)) → slice_get xs 0 ≡ Some first → RefusedUnless (end_tests ord.cmp xs mid) e
@@ -164,7 +164,7 @@ module _ {K N I L C D : Type 0} (ord : OrdMembers C) (id_eq : K → K → Bool) 
             let is : x ≡ first = cc in
             let c : IsCut ord x.log_id.index old mid = rw is was_cut in
             refused_unless_more (end_tests ord.cmp (x ∷ xs) mid) (new_tests ord.cmp (x ∷ xs) old)
-            (λ h. h) (λ h. absurd (true≢false h)) (λ h. rw c.log at h) (λ h. rw c.memberships at h) (λ h. h) e r
+            (λ h. absurd (true≢false h)) (λ h. rw c.log at h) (λ h. rw c.memberships at h) (λ h. h) e r
 
     pub replaces : (new : RaftStateIn K N I L C) → may_extend ord.cmp es mid ≡ true
         → IsTrue (same_log ord.eq (full_log new.log_ids) (full_log mid.log_ids ++ entry_ids es))

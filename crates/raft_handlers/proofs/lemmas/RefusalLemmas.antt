@@ -24,27 +24,13 @@ use Rattle.raft_handlers.specs.Entries.{
   RefusedUnless,
   TakeTests,
 }
-use Rattle.raft_handlers.specs.declared.error.HandlerError.{HandlerError}
-use Rattle.raft_handlers.specs.declared.error.HandlerError.TheVariants.{
+use Rattle.raft_handlers.specs.declared.error.AppendError.{AppendError}
+use Rattle.raft_handlers.specs.declared.error.AppendError.TheVariants.{
   CommittedNotLogged,
-  ForeignResponse,
-  HigherVote,
-  InvalidMembership,
   MembershipNotInOrder,
-  NoNextIndex,
-  NoNextTerm,
-  NotAllowed,
-  NotElected,
-  NotInMembers,
   NotInOrder,
-  NotLeader,
-  NotLogged,
-  NotVoter,
   OutOfMemory,
-  ResponseRefused,
-  SnapshotDoesNotFit,
   TruncatesCommitted,
-  UnknownMember,
 }
 use Rattle.raft_state.specs.log_id_list.FullLog.{full_log}
 use Rattle.raft_state.specs.raft_state.Sound.{purged_or_logged}
@@ -52,51 +38,22 @@ use Rattle.raft_state.specs.declared.entry.EntryOf.{EntryOf}
 use Rattle.raft_state.specs.declared.raft_state.RaftStateIn.{RaftStateIn}
 
 -- tests that hold only if others do have the same refusals, and more
-module _ (t u : TakeTests) (fits : t.fits ≡ false → u.fits ≡ false) (keeps : t.keeps ≡ false → u.keeps ≡ false)
-    (order : t.order ≡ false → u.order ≡ false) (members : t.members ≡ false → u.members ≡ false)
+module _ (t u : TakeTests) (keeps : t.keeps ≡ false → u.keeps ≡ false) (order : t.order ≡ false → u.order ≡ false) (members : t.members ≡ false → u.members ≡ false)
     (has : t.has ≡ false → u.has ≡ false) where
-  pub refused_unless_more : (e : HandlerError) → RefusedUnless t e → RefusedUnless u e
+  pub refused_unless_more : (e : AppendError) → RefusedUnless t e → RefusedUnless u e
   refused_unless_more OutOfMemory r = r
   refused_unless_more NotInOrder r = order r
   refused_unless_more TruncatesCommitted r = keeps r
   refused_unless_more MembershipNotInOrder r = members r
   refused_unless_more CommittedNotLogged r = has r
-  refused_unless_more SnapshotDoesNotFit r = fits r
-  refused_unless_more NotVoter r = absurd r
-  refused_unless_more NoNextTerm r = absurd r
-  refused_unless_more NotElected r = absurd r
-  refused_unless_more NotLeader r = absurd r
-  refused_unless_more NoNextIndex r = absurd r
-  refused_unless_more UnknownMember r = absurd r
-  refused_unless_more ForeignResponse r = absurd r
-  refused_unless_more HigherVote r = absurd r
-  refused_unless_more (ResponseRefused x) r = absurd r
-  refused_unless_more NotLogged r = absurd r
-  refused_unless_more NotAllowed r = absurd r
-  refused_unless_more NotInMembers r = absurd r
-  refused_unless_more InvalidMembership r = absurd r
 
 -- if all tests hold, only an allocation may have failed
-pub only_memory : (e : HandlerError) → RefusedUnless tests_hold e → e ≡ OutOfMemory
+pub only_memory : (e : AppendError) → RefusedUnless tests_hold e → e ≡ OutOfMemory
 only_memory OutOfMemory r = refl
 only_memory NotInOrder r = absurd (true≢false r)
 only_memory TruncatesCommitted r = absurd (true≢false r)
 only_memory MembershipNotInOrder r = absurd (true≢false r)
 only_memory CommittedNotLogged r = absurd (true≢false r)
-only_memory SnapshotDoesNotFit r = absurd (true≢false r)
-only_memory NotVoter r = absurd r
-only_memory NoNextTerm r = absurd r
-only_memory NotElected r = absurd r
-only_memory NotLeader r = absurd r
-only_memory NoNextIndex r = absurd r
-only_memory UnknownMember r = absurd r
-only_memory ForeignResponse r = absurd r
-only_memory HigherVote r = absurd r
-only_memory (ResponseRefused x) r = absurd r
-only_memory NotLogged r = absurd r
-only_memory NotAllowed r = absurd r
-only_memory NotInMembers r = absurd r
-only_memory InvalidMembership r = absurd r
 
 may_commit_parts : {K N C D : Type 0} (eq : C → C → Bool) (cmp : C → C → Ordering) (log : List (LogIdOf C))
     (effective before id : Option (LogIdOf C)) (new : List (EntryOf C K N D)) → may_commit_with eq cmp log effective new before id ≡ true
@@ -112,7 +69,7 @@ may_commit_parts eq cmp log effective before id new may = by (id_lt cmp before i
 module _ {K N I L C D : Type 0} (eq : C → C → Bool) (cmp : C → C → Ordering) (prev : Option (LogIdOf C)) (es : List (EntryOf C K N D))
     (s : RaftStateIn K N I L C) where
   -- a request that may be taken is refused only if an allocation failed
-  pub taken_error : (committed : Option (LogIdOf C)) (e : HandlerError) → may_take eq cmp prev es committed s ≡ true
+  pub taken_error : (committed : Option (LogIdOf C)) (e : AppendError) → may_take eq cmp prev es committed s ≡ true
       → RefusedUnless (append_tests (purged_or_logged eq s prev) eq cmp prev es (least cmp committed (last_of prev es)) s) e
       → e ≡ OutOfMemory
   taken_error committed e may refused = by (purged_or_logged eq s prev) may refused
@@ -134,7 +91,7 @@ module _ {K N I L C D : Type 0} (eq : C → C → Bool) (cmp : C → C → Order
           let f = and_parts order members d.0 in
           let m = may_commit_parts eq cmp (full_log s.log_ids) effective s.committed id new d.1 in
           only_memory e (refused_unless_more (take_tests eq cmp prev es id s) tests_hold
-          (λ k. k) (λ k. sym b.0 ∙ k) (λ k. sym (both_true a.0 f.0) ∙ k) (λ k. sym (both_true f.1 m.1) ∙ k) (λ k. sym m.0 ∙ k) e r)
+          (λ k. sym b.0 ∙ k) (λ k. sym (both_true a.0 f.0) ∙ k) (λ k. sym (both_true f.1 m.1) ∙ k) (λ k. sym m.0 ∙ k) e r)
       by false h r =
           only_memory e (refused_unless_more (record tests_hold { keeps = may_cut_at cmp prev s }) tests_hold
-          (λ k. k) (λ k. sym h ∙ k) (λ k. k) (λ k. k) (λ k. k) e r)
+          (λ k. sym h ∙ k) (λ k. k) (λ k. k) (λ k. k) e r)

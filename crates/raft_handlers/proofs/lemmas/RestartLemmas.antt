@@ -46,7 +46,6 @@ use Rattle.raft_base.specs.Vote.{vote_cmp}
 use Rattle.raft_base.specs.declared.log_id.LogIdOf.{LogIdOf}
 use Rattle.raft_base.specs.declared.vote.VoteIn.{VoteIn}
 use Rattle.raft_base.specs.LogIdLawful.{optional-log_id_cmp-total}
-use Rattle.raft_handlers.proofs.lemmas.RefusalLemmas.{refused_unless_more}
 use Rattle.raft_handlers.proofs.lemmas.TakeLemmas.{
   commit_allows,
   commit_committed,
@@ -71,11 +70,10 @@ use Rattle.raft_handlers.specs.Entries.{
   last_before,
   log_with_new,
   new_tests,
-  tests_hold,
 }
 use Rattle.raft_handlers.specs.Restart.{
   entries_past,
-  restart_tests,
+  refused_entries,
   snapshot_fits,
   snapshot_ids,
   snapshot_membership,
@@ -83,14 +81,23 @@ use Rattle.raft_handlers.specs.Restart.{
   CommitsKnown,
   HasSnapshotAlone,
   IsMembershipAt,
+  IsRefusedWith,
   IsRestartRefusal,
   IsSnapshotAt,
   Restores,
 }
 use Rattle.raft_handlers.specs.Entries.{RefusedUnless}
-use Rattle.raft_handlers.specs.Snapshot.{install_refusal, InstallsSnapshot, RefusedFor}
-use Rattle.raft_handlers.specs.declared.error.HandlerError.{HandlerError}
-use Rattle.raft_handlers.specs.declared.error.HandlerError.TheVariants.{SnapshotDoesNotFit}
+use Rattle.raft_handlers.specs.Snapshot.{install_refusal, InstallsSnapshot, RefusedFor, RefusedUnlessFits}
+use Rattle.raft_handlers.specs.declared.error.AppendError.{AppendError}
+use Rattle.raft_handlers.specs.declared.error.AppendError.TheVariants.{
+  CommittedNotLogged,
+  MembershipNotInOrder,
+  NotInOrder,
+  OutOfMemory,
+  TruncatesCommitted,
+}
+use Rattle.raft_handlers.specs.declared.error.SnapshotError.{SnapshotError}
+use Rattle.raft_handlers.specs.declared.error.SnapshotError.TheVariants.{DoesNotFit}
 use Rattle.raft_members.specs.membership.Stored.{log_id_of}
 use Rattle.raft_state.proofs.lemmas.log_id_list.IdOrderLemmas.{none_at_most}
 use Rattle.raft_progress.proofs.lemmas.OrderLemmas.{AtMost-refl, not_lt-from_AtMost}
@@ -218,19 +225,19 @@ module _ {K N I L C : Type 0} (id_eq : K → K → Bool) (same : N → N → Boo
   -- so an install into it is refused exactly if the snapshot does not fit
   pub refusal_promised : (meta : SnapshotMetaOf C K N) → is_some meta.last_log_id ≡ true
       → install_refusal order cmp eq meta new
-      ≡ (if not (snapshot_fits cmp meta.last_log_id meta.last_membership) then Some SnapshotDoesNotFit else None)
+      ≡ (if not (snapshot_fits cmp meta.last_log_id meta.last_membership) then Some DoesNotFit else None)
   refusal_promised meta some = rw (past_promised meta.last_log_id some, fits_promised meta some) refl
 
 -- what the result of such an install says of the snapshot
-pub fits_if_taken : {T : Type 0} (fits : Bool) (value : T) → RefusedFor (if not fits then Some SnapshotDoesNotFit else None)
-    (let taken : Result T HandlerError = Ok value in taken) → fits ≡ true
+pub fits_if_taken : {T : Type 0} (fits : Bool) (value : T) → RefusedFor (if not fits then Some DoesNotFit else None)
+    (let taken : Result T SnapshotError = Ok value in taken) → fits ≡ true
 fits_if_taken true value h = refl
 fits_if_taken false value h = cc
 
-pub refused_if_not : (T : Type 0) (fits : Bool) (e : HandlerError) → RefusedFor (if not fits then Some SnapshotDoesNotFit else None)
-    (let refused : Result T HandlerError = Err e in refused) → RefusedUnless (record tests_hold { fits = fits }) e
+pub refused_if_not : (T : Type 0) (fits : Bool) (e : SnapshotError) → RefusedFor (if not fits then Some DoesNotFit else None)
+    (let refused : Result T SnapshotError = Err e in refused) → RefusedUnlessFits fits e
 refused_if_not T true e h = rw h tt
-refused_if_not T false e h = let is : e ≡ SnapshotDoesNotFit = cc in rw is refl
+refused_if_not T false e h = let is : e ≡ DoesNotFit = cc in rw is refl
 
 -- an entry up to the last log id of a snapshot is not past it. If another leader has it at that index,
 -- no entry is past it
@@ -322,28 +329,37 @@ module _ {K N I L C : Type 0} (id_eq : K → K → Bool) (same : N → N → Boo
             )
 
     -- entries past the snapshot are refused for what a restart is refused for
-    pub restart_refused : (e : HandlerError) → RefusedUnless (new_tests ord.cmp new s) e
-        → IsRestartRefusal ord.eq ord.cmp meta stored committed e
-    restart_refused e refused =
-        let b = before_alone in
-        rw is (refused_unless_more (new_tests ord.cmp new s) (restart_tests ord.eq ord.cmp meta new committed)
-        (λ h. absurd (true≢false h)) (λ h. sym b.3 ∙ h) (λ h. rw b.1 at h) (λ h. rw (rw b.2 at h) refl)
-        (λ h. absurd (true≢false h)) e refused)
+    pub restart_refused : (e : AppendError) → RefusedUnless (new_tests ord.cmp new s) e
+        → IsRestartRefusal ord.eq ord.cmp meta stored committed (refused_entries e)
+    restart_refused e refused = rw is (by e refused)
+      where
+        by : (e : AppendError) → RefusedUnless (new_tests ord.cmp new s) e
+            → IsRefusedWith ord.eq ord.cmp meta new committed (refused_entries e)
+        by NotInOrder h = rw before_alone.1 at h
+        by TruncatesCommitted h = absurd (true≢false (sym before_alone.3 ∙ h))
+        by MembershipNotInOrder h = rw (rw before_alone.2 at h) refl
+        by CommittedNotLogged h = absurd (true≢false h)
+        by OutOfMemory h = tt
 
     -- once they are appended
     module _ (eqs : IsEquivalence ord.eq) (mid : RaftStateIn K N I L C) (replaced : Replaces ord id_eq same new s mid) where
       -- so is the commit
-      pub restart_not_committed : (e : HandlerError) → RefusedUnless (commit_tests ord.eq ord.cmp committed mid) e
-          → IsRestartRefusal ord.eq ord.cmp meta stored committed e
-      restart_not_committed e refused =
-          let b = before_alone in
-          let effective = snapshot_membership meta.last_log_id meta.last_membership in
-          rw is (refused_unless_more (commit_tests ord.eq ord.cmp committed mid) (restart_tests ord.eq ord.cmp meta new committed)
-          (λ h. absurd (true≢false h)) (λ h. h) (λ h. absurd (true≢false h))
-          (λ h. and_right (has_memberships_in_order ord.cmp effective new)
-          (allows_commit_past ord.cmp (effective_with effective new) meta.last_log_id committed)
-          (rw (b.2, alone.committed) at (commit_allows ord id_eq same new committed s mid replaced false h)))
-          (λ h. rw (alone.log, alone.committed) at (commit_lacks ord id_eq same new committed s mid replaced eqs h)) e refused)
+      pub restart_not_committed : (e : AppendError) → RefusedUnless (commit_tests ord.eq ord.cmp committed mid) e
+          → IsRestartRefusal ord.eq ord.cmp meta stored committed (refused_entries e)
+      restart_not_committed e refused = rw is (by e refused)
+        where
+          by : (e : AppendError) → RefusedUnless (commit_tests ord.eq ord.cmp committed mid) e
+              → IsRefusedWith ord.eq ord.cmp meta new committed (refused_entries e)
+          by NotInOrder h = absurd (true≢false h)
+          by TruncatesCommitted h = absurd (true≢false h)
+          by MembershipNotInOrder h =
+              let effective = snapshot_membership meta.last_log_id meta.last_membership in
+              and_right (has_memberships_in_order ord.cmp effective new)
+              (allows_commit_past ord.cmp (effective_with effective new) meta.last_log_id committed)
+              (rw (before_alone.2, alone.committed) at (commit_allows ord id_eq same new committed s mid replaced false h))
+          by CommittedNotLogged h =
+              rw (alone.log, alone.committed) at (commit_lacks ord id_eq same new committed s mid replaced eqs h)
+          by OutOfMemory h = tt
 
       -- and then the server has what its disk has
       pub restores : (after end : RaftStateIn K N I L C) → after ≡ state_after_commit ord.cmp committed mid

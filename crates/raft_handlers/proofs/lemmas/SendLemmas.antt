@@ -24,8 +24,8 @@ use Rattle.raft_handlers.specs.Responses.{
   end_after,
   with_hint,
 }
-use Rattle.raft_handlers.specs.declared.error.HandlerError.{HandlerError}
-use Rattle.raft_handlers.specs.declared.error.HandlerError.TheVariants.{HigherVote}
+use Rattle.raft_handlers.specs.declared.error.ResponseError.{ResponseError}
+use Rattle.raft_handlers.specs.declared.error.ResponseError.TheVariants.{HigherVote}
 use Rattle.raft_handlers.specs.declared.message.Outcome.TheVariants.{Conflict, HigherVote as RefusedFor}
 use Rattle.raft_handlers.proofs.lemmas.FollowerLemmas.{id_le-refl}
 
@@ -100,7 +100,7 @@ vote_table cmp entry (Some r) vote = refl
 vote_table cmp entry None vote = refl
 
 -- a response whose refusals are taken as a leader's
-pub refused_response : {V U S : Type 0} (value : Option V) (table : V → Result V InflightError) (table' : V → Result V HandlerError)
+pub refused_response : {V U S : Type 0} (value : Option V) (table : V → Result V InflightError) (table' : V → Result V ResponseError)
     (Writes Writes' : V → Type 0) (old new : S) → ((entry : V) → table' entry ≡ as_refused (table entry))
     → ((entry next : V) → value ≡ Some entry → Writes next → Writes' next) → (r : Option (Result U InflightError))
     → IsResponse value table Writes old r new → IsResponse value table' Writes' old (option_map as_refused r) new

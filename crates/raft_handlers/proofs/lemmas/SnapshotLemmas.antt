@@ -6,7 +6,7 @@ use Rattle.std.specs.declared.cmp.Ordering.{Ordering}
 use Rattle.raft_base.specs.LogId.{id_lt}
 use Rattle.raft_base.specs.declared.log_id.LogIdOf.{LogIdOf}
 use Rattle.raft_handlers.specs.Snapshot.{Installs, RefusedFor}
-use Rattle.raft_handlers.specs.declared.error.HandlerError.{HandlerError}
+use Rattle.raft_handlers.specs.declared.error.SnapshotError.{SnapshotError}
 use Rattle.raft_progress.specs.progress.Comparisons.{OrdMembers}
 use Rattle.raft_members.specs.membership.MembersLawful.{same_members-equiv}
 use Rattle.raft_members.specs.membership.Stored.{membership_of}
@@ -93,19 +93,19 @@ known_installs id_eq same same_leader ord meta s not = record {
 }
 
 -- a call that is refused is refused for a reason that the caller gives
-pub refused_after : (A : Type 0) {B : Type 0} (o : Option HandlerError) (e f : HandlerError) (r : Result B HandlerError) → r ≡ Err f → f ≡ e
-    → RefusedFor o (let inner : Result A HandlerError = Err e in inner) → RefusedFor o r
+pub refused_after : (A : Type 0) {B : Type 0} (o : Option SnapshotError) (e f : SnapshotError) (r : Result B SnapshotError) → r ≡ Err f → f ≡ e
+    → RefusedFor o (let inner : Result A SnapshotError = Err e in inner) → RefusedFor o r
 refused_after A None e f r is same h = rw (is, same) h
 refused_after A (Some d) e f r is same h = let reason : e ≡ d = cc in rw (is, same, reason) refl
 
-pub taken_as : {A B : Type 0} (o : Option HandlerError) (a : A) (b : B)
-    → RefusedFor o (let inner : Result A HandlerError = Ok a in inner)
-    → RefusedFor o (let out : Result B HandlerError = Ok b in out)
+pub taken_as : {A B : Type 0} (o : Option SnapshotError) (a : A) (b : B)
+    → RefusedFor o (let inner : Result A SnapshotError = Ok a in inner)
+    → RefusedFor o (let out : Result B SnapshotError = Ok b in out)
 taken_as None a b h = tt
 taken_as (Some d) a b h = cc
 
 -- a leader that is followed is refused for that reason
-pub followed_refusal : {T : Type 0} (followed : Bool) (reason : Option HandlerError) (out : Result T HandlerError) → followed ≡ true
+pub followed_refusal : {T : Type 0} (followed : Bool) (reason : Option SnapshotError) (out : Result T SnapshotError) → followed ≡ true
     → RefusedFor reason out → RefusedFor (if followed then reason else None) out
 followed_refusal true reason out is h = h
 followed_refusal false reason out is h = cc

@@ -89,8 +89,8 @@ use Rattle.raft_handlers.specs.Entries.{
   TakeTests,
 }
 use Rattle.raft_handlers.specs.Follow.{heard, is_followed}
-use Rattle.raft_handlers.specs.declared.error.HandlerError.{HandlerError}
-use Rattle.raft_handlers.specs.declared.error.HandlerError.TheVariants.{NotInOrder}
+use Rattle.raft_handlers.specs.declared.error.AppendError.{AppendError}
+use Rattle.raft_handlers.specs.declared.error.AppendError.TheVariants.{NotInOrder}
 use Rattle.raft_handlers.specs.declared.message.AppendEntries.{AppendEntries}
 use Rattle.raft_handlers.specs.declared.message.Outcome.{Outcome}
 use Rattle.raft_handlers.specs.declared.message.Outcome.TheVariants.{Matches, Conflict, HigherVote}
@@ -268,7 +268,7 @@ module _ {K N I L C D : Type 0} (ord : OrdMembers C) (id_eq : K → K → Bool) 
   module _ (n : ℕ) (is : n ≡ prefix_len (has_entry ord.eq old) es) (has : purged_or_logged ord.eq old prev ≡ true)
       (order : are_in_order ord.cmp prev es ≡ true) where
     -- they are refused before they are in the log
-    pub new_refused : (new : RaftStateIn K N I L C) (e : HandlerError) → RefusedUnless (new_tests ord.cmp (drop n es) old) e
+    pub new_refused : (new : RaftStateIn K N I L C) (e : AppendError) → RefusedUnless (new_tests ord.cmp (drop n es) old) e
         → Stops ord (drop n es) old new
         → Refused ord id_eq same (take_tests ord.eq ord.cmp prev es id old) prev es e old new
     new_refused new e why stopped =
@@ -277,7 +277,7 @@ module _ {K N I L C D : Type 0} (ord : OrdMembers C) (id_eq : K → K → Bool) 
         let vote : new.vote ≡ old.vote = ap (λ s. s.vote) stops.rest in
         record {
           reason = refused_unless_more (new_tests ord.cmp (new_of ord.eq old es) old) (take_tests ord.eq ord.cmp prev es id old)
-              (λ h. h) (λ h. h)
+              (λ h. h)
               (λ h. and_right (are_in_order ord.cmp prev es)
               (are_in_order ord.cmp (last_before (new_of ord.eq old es) old) (new_of ord.eq old es)) h)
               (λ h. rw h refl) (λ h. absurd (true≢false h)) e reason;
@@ -308,14 +308,14 @@ module _ {K N I L C D : Type 0} (ord : OrdMembers C) (id_eq : K → K → Bool) 
       row : are_consecutive prev (entry_ids (take (n + 1) es)) ≡ true
       row = consecutive_take (n + 1) prev es ((and_parts _ _ order).1)
 
-      pub commit_refused : (new : RaftStateIn K N I L C) (e : HandlerError) → new ≡ mid
+      pub commit_refused : (new : RaftStateIn K N I L C) (e : AppendError) → new ≡ mid
           → RefusedUnless (commit_tests ord.eq ord.cmp id mid) e
           → Refused ord id_eq same (take_tests ord.eq ord.cmp prev es id old) prev es e old new
       commit_refused new e stays why =
           let vote : mid.vote ≡ old.vote = ap (λ s. s.vote) replaced.rest in
           rw stays (record {
             reason = refused_unless_more (commit_tests ord.eq ord.cmp id mid) (take_tests ord.eq ord.cmp prev es id old)
-                (λ h. h) (λ h. absurd (true≢false h)) (λ h. absurd (true≢false h))
+                (λ h. absurd (true≢false h)) (λ h. absurd (true≢false h))
                 (λ h. and_right (has_memberships_in_order ord.cmp (effective_before (new_of ord.eq old es) old) (new_of ord.eq old es))
                 (allows_commit_past ord.cmp (effective_with (effective_before (new_of ord.eq old es) old) (new_of ord.eq old es))
                 old.committed id)
@@ -400,7 +400,7 @@ cut_is cmp at (Some x) s h = let is : x.index ≡ at = cc in rw (← is) refl
 
 pub conflict_refused : {K N I L C D : Type 0} (ord : OrdMembers C) (id_eq : K → K → Bool) (same : N → N → Bool)
     → IsEquivalence ord.eq → (prev : Option (LogIdOf C)) (es : List (EntryOf C K N D)) (id : Option (LogIdOf C))
-    (old new : RaftStateIn K N I L C) (at : ℕ) (e : HandlerError) → IsConflict ord.eq at prev old → new ≡ old
+    (old new : RaftStateIn K N I L C) (at : ℕ) (e : AppendError) → IsConflict ord.eq at prev old → new ≡ old
     → RefusedUnless (record tests_hold { keeps = may_cut ord.cmp at old }) e
     → Refused ord id_eq same (append_tests (purged_or_logged ord.eq old prev) ord.eq ord.cmp prev es id old) prev es e old new
 conflict_refused ord id_eq same eqs prev es id old new at e conflict stays why =
@@ -414,7 +414,7 @@ conflict_refused ord id_eq same eqs prev es id old new at e conflict stays why =
 -- entries after a log id that the log has are refused as their request is
 pub matched_refused : {K N I L C D : Type 0} (ord : OrdMembers C) (id_eq : K → K → Bool) (same : N → N → Bool)
     (prev : Option (LogIdOf C)) (es : List (EntryOf C K N D)) (id : Option (LogIdOf C)) (old new : RaftStateIn K N I L C)
-    (e : HandlerError) → purged_or_logged ord.eq old prev ≡ true
+    (e : AppendError) → purged_or_logged ord.eq old prev ≡ true
     → Refused ord id_eq same (take_tests ord.eq ord.cmp prev es id old) prev es e old new
     → Refused ord id_eq same (append_tests (purged_or_logged ord.eq old prev) ord.eq ord.cmp prev es id old) prev es e old new
 matched_refused ord id_eq same prev es id old new e has refused = rw has refused
@@ -573,7 +573,7 @@ module _ {K N I L C D : Type 0} (ord : OrdMembers C) (id_eq : K → K → Bool) 
         by None = refl
         by (Some x) = refl
 
-  pub heard_refuses : (request : AppendEntries L C K N D) (e : HandlerError) → Refuses ord id_eq same request e (voted s vote) new
+  pub heard_refuses : (request : AppendEntries L C K N D) (e : AppendError) → Refuses ord id_eq same request e (voted s vote) new
       → Refuses ord id_eq same request e s new
   heard_refuses request e h = record {
     reason = subst (λ (t : TakeTests). RefusedUnless t e)

@@ -1,23 +1,22 @@
 //! How a leader changes the membership.
 ghost use Rattle.std.specs.Prelude.{◌≡◌, ◌<◌, ◌∷◌, [], None, true, nat_lt, IfErr, IfOk, IsOk, OnOk, length};
 ghost use Rattle.std.specs.Set.{ClonesAreEqual};
-ghost use Rattle.raft_base.specs.LogId.{next_index};
 ghost use Rattle.raft_handlers.specs.Changes.{AppendsMembers, RefusesMembers, members_after_leave};
 ghost use Rattle.raft_handlers.specs.Compared.{compared};
-ghost use Rattle.raft_handlers.specs.Entries.{IsFullLogRefusal};
 ghost use Rattle.raft_members.specs.membership.Change.{last_config};
 ghost use Rattle.raft_state.specs.membership_state.Apply.{members_after_change};
 ghost use Rattle.raft_state.specs.membership_state.Memberships.{in_effect};
 ghost use Rattle.raft_state.specs.raft_state.Sound.{IsSound};
 
 use super::Leader;
-use crate::error::HandlerError;
+use crate::error::ProposeError;
 use crate::state::State;
 use raft_base::{Instant, LeaderIdentity, LogIdOf, LogIdOptionExt, LogStateReader, Node, NodeId};
 use raft_members::{ChangeMembers, ChangeMembershipErrorOf, Membership};
 use raft_progress::laws::quorums_know_granted;
 use raft_progress::{ProgressEntryOf, Reply, Tracked};
 use raft_state::{EntryOf, EntryPayload};
+use std::alloc::AllocError;
 use std::collections::BTreeSet;
 use std::fmt::Debug;
 use thiserror::Error;
@@ -37,7 +36,28 @@ pub enum ChangeError<C: Ord + Copy + Default + Debug, NID: NodeId> {
     Change(ChangeMembershipErrorOf<C, NID>),
     /// The entry is refused.
     #[error(transparent)]
-    Entry(HandlerError),
+    Entry(ProposeError),
+}
+
+impl<C: Ord + Copy + Default + Debug, NID: NodeId> From<ProposeError> for ChangeError<C, NID> {
+    ghost use Rattle.raft_handlers.specs.declared.leader.change.ChangeError.TheVariants.{Entry};
+
+    ghost from_gives = { λ refused e. e ≡ Entry refused };
+
+    fn from(refused: ProposeError) -> Self {
+        ChangeError::Entry(refused)
+    }
+}
+
+impl<C: Ord + Copy + Default + Debug, NID: NodeId> From<AllocError> for ChangeError<C, NID> {
+    ghost use Rattle.raft_handlers.specs.declared.leader.change.ChangeError.TheVariants.{Entry};
+    ghost use Rattle.raft_handlers.specs.declared.error.ProposeError.TheVariants.{OutOfMemory};
+
+    ghost from_gives = { λ refused e. e ≡ Entry OutOfMemory };
+
+    fn from(_refused: AllocError) -> Self {
+        ChangeError::Entry(ProposeError::OutOfMemory)
+    }
 }
 
 impl<NID: NodeId, N: Node, C: Ord + Copy + Default + Debug + Drop + 'static> Leader<NID, N, C> {
@@ -77,21 +97,15 @@ impl<NID: NodeId, N: Node, C: Ord + Copy + Default + Debug + Drop + 'static> Lea
             Ok(members) => members,
             Err(refused) => return Err(ChangeError::Change(refused)),
         };
-        let Ok(stored) = members.try_clone() else {
-            return Err(ChangeError::Entry(HandlerError::OutOfMemory));
-        };
         let last = state.last_log_id().copied();
-        let followers = match self.followers_over(members, last) {
-            Ok(followers) => followers,
-            Err(refused) => return Err(ChangeError::Entry(refused)),
-        };
-        match self.append_own(state, EntryPayload::Membership(stored)) {
-            Ok(entry) => {
-                self.followers = followers;
-                Ok(entry)
-            }
-            Err(refused) => Err(ChangeError::Entry(refused)),
+        if !last.has_next_index() {
+            return Err(ChangeError::Entry(ProposeError::NoNextIndex));
         }
+        let stored = members.try_clone()?;
+        let followers = self.followers_over(members, last.next_index())?;
+        let entry = self.append_own(state, EntryPayload::Membership(stored))?;
+        self.followers = followers;
+        Ok(entry)
     }
 
     /// Proposes the step from a joint membership to its last config, once the joint one is
@@ -132,34 +146,28 @@ impl<NID: NodeId, N: Node, C: Ord + Copy + Drop> Leader<NID, N, C> {
     ghost use Rattle.std.specs.Option.{option_cmp};
     ghost use Rattle.raft_progress.specs.tracked.Tracked.{tracked_view};
 
-    /// What is known of the members of a membership, in which those who stay keep what is known of
-    /// them, and nothing is known of the others. The requests to these are numbered anew, after
+    /// What is known of the members of a membership once the log has this end: those who stay keep
+    /// what is known of them, and nothing is known of the others. The requests to these are numbered anew, after
     /// those that the leader has sent.
     fn followers_over(
         &self,
         members: Membership<NID, N>,
-        last: Option<LogIdOf<C>>,
-    ) -> Result<Tracked<NID, N, ProgressEntryOf<C>, Option<LogIdOf<C>>>, HandlerError>
+        end: u64,
+    ) -> Result<Tracked<NID, N, ProgressEntryOf<C>, Option<LogIdOf<C>>>, AllocError>
         requires clones_are_equal { ClonesAreEqual N.eq N.is_clone }
         ensures members { IfOk result (λ made. (tracked_view made).membership ≡ members) }
-        ensures kept { IfOk result (λ made. KeepsValues NID.eq (next_index last)
+        ensures kept { IfOk result (λ made. KeepsValues NID.eq end
             self.now.last_request self.now.followers (tracked_view made)) }
         ensures default { IfOk result (λ made. (tracked_view made).progress.default_part ≡ None) }
-        ensures refused { IfErr result (IsFullLogRefusal (next_index last)) }
         ensures ready { IfOk result (λ made. IsReady NID.eq NID.cmp (option_cmp (log_id_cmp C.cmp))
             (λ entry. entry.matching) (tracked_view made)) }
     {
-        if !last.has_next_index() {
-            return Err(HandlerError::NoNextIndex);
-        }
-        let unknown = ProgressEntryOf::<C>::empty(last.next_index());
+        let unknown = ProgressEntryOf::<C>::empty(end);
         let unknown = unknown.with_curr_inflight_id(self.last_request);
-        let Ok(mut followers) = self.followers.try_clone() else {
-            return Err(HandlerError::OutOfMemory);
-        };
+        let mut followers = self.followers.try_clone()?;
         match followers.change_to(members, unknown) {
             Reply::Granted(_) => Ok(followers),
-            _ => Err(HandlerError::OutOfMemory),
+            _ => Err(AllocError),
         }
     }
 }

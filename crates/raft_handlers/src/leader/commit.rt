@@ -5,7 +5,7 @@ ghost use Rattle.raft_handlers.specs.Leadership.{ChangedQuorumsHave, Commits, Is
 ghost use Rattle.raft_state.specs.raft_state.Sound.{IsSound};
 
 use super::Leader;
-use crate::error::HandlerError;
+use crate::error::CommitError;
 use raft_base::{Instant, LogIdOf, Node, NodeId, log_id_below};
 use raft_members::membership::Configs;
 use raft_progress::laws::{granted_is_threshold, quorums_know_granted};
@@ -50,7 +50,7 @@ impl<NID: NodeId, N: Node, C: Ord + Copy + Drop> Leader<NID, N, C> {
     pub fn commit<I: Instant, L: Drop>(
         &self,
         state: &mut RaftStateIn<NID, N, I, L, C>,
-    ) -> Result<bool, HandlerError>
+    ) -> Result<bool, CommitError>
         ensures committed { IfOk result (Commits NID.eq C.Ord self.now state.old state.new) }
         ensures monotone { IsTrue (id_le C.cmp state.old.committed state.new.committed) }
         ensures refused { IfErr result (RefusesCommit C.Ord self.now state.old state.new) }
@@ -61,14 +61,14 @@ impl<NID: NodeId, N: Node, C: Ord + Copy + Drop> Leader<NID, N, C> {
             return Ok(false);
         }
         if !state.is_logged(&granted) {
-            return Err(HandlerError::NotLogged);
+            return Err(CommitError::NotLogged);
         }
         if !state.can_commit(&granted) {
-            return Err(HandlerError::MembershipNotInOrder);
+            return Err(CommitError::MembershipNotInOrder);
         }
         match state.update_committed(&granted) {
             Ok(_before) => Ok(true),
-            Err(_) => Err(HandlerError::OutOfMemory),
+            Err(_) => Err(CommitError::OutOfMemory),
         }
     }
 }

@@ -13,7 +13,7 @@ ghost use Rattle.raft_state.specs.raft_state.VoteAndLog.{log_view_of};
 ghost use Rattle.raft_state.specs.raft_state.Valid.{none_or_logged};
 
 use super::Leader;
-use crate::error::HandlerError;
+use crate::error::{FlushError, ResponseError};
 use crate::message::{Outcome, Response};
 use crate::state::State;
 use raft_base::{Instant, LeaderIdentity, LogIdOf, LogIdOptionExt, LogStateReader, Node, NodeId};
@@ -61,16 +61,16 @@ impl<NID: NodeId, N: Node, C: Ord + Copy + Drop> Leader<NID, N, C> {
         &mut self,
         from: &NID,
         response: &Response<L, C>,
-    ) -> Result<(), HandlerError>
+    ) -> Result<(), ResponseError>
         ensures takes { TakesResponse NID.eq C.Ord from.now response.now self.old self.new result }
         ensures monotone { IsTrue
             (id_le C.cmp (granted_by self.old) (granted_by self.new)) }
     {
         if response.leader_id != self.leader_id {
-            return Err(HandlerError::ForeignResponse);
+            return Err(ResponseError::Foreign);
         }
         let Some(taken) = take_response(&mut self.followers, from, response) else {
-            return Err(HandlerError::UnknownMember);
+            return Err(ResponseError::UnknownMember);
         };
         taken
     }
@@ -101,7 +101,7 @@ impl<NID: NodeId, N: Node, C: Ord + Copy + Default + Drop + 'static> Leader<NID,
         &mut self,
         state: &State<NID, N, I, L>,
         upto: Option<LogIdOf<C>>,
-    ) -> Result<(), HandlerError>
+    ) -> Result<(), FlushError>
         ensures leads { let by = compared NID.Ord N.eq L.LeaderIdentity C.Ord in
             IsOk result → IsTrue (is_leading by self.old state.now) }
         ensures logged { OnOk result (IsTrue (none_or_logged C.eq (log_view_of state.now) upto)) }
@@ -123,13 +123,13 @@ impl<NID: NodeId, N: Node, C: Ord + Copy + Default + Drop + 'static> Leader<NID,
             (id_le C.cmp (granted_by self.old) (granted_by self.new)) }
     {
         if !self.leads(state) {
-            return Err(HandlerError::NotLeader);
+            return Err(FlushError::NotLeader);
         }
         if !upto.has_next_index() {
-            return Err(HandlerError::NoNextIndex);
+            return Err(FlushError::NoNextIndex);
         }
         if !state.is_logged(&upto) {
-            return Err(HandlerError::NotLogged);
+            return Err(FlushError::NotLogged);
         }
         let entry = ProgressEntryOf::<C>::new(upto);
         let _reply = self.followers.update(&self.id, entry);
@@ -153,7 +153,7 @@ fn take_response<NID: NodeId, N: Node, L, C: Ord + Copy>(
     followers: &mut Tracked<NID, N, ProgressEntryOf<C>, Option<LogIdOf<C>>>,
     from: &NID,
     response: &Response<L, C>,
-) -> Option<Result<(), HandlerError>>
+) -> Option<Result<(), ResponseError>>
     ensures step { IsResponse (member_value NID.eq (tracked_view followers.old) from.now)
         (λ entry. after_response C.cmp entry response.now)
         (λ next. WritesMember NID.eq (tracked_view followers.old) from.now next
@@ -172,7 +172,7 @@ fn take_response<NID: NodeId, N: Node, L, C: Ord + Copy>(
         Outcome::Conflict { index, last } => {
             refuse(take_conflict(followers, from, response.request, index, last))
         }
-        Outcome::HigherVote(_) => if_known(followers, from, Err(HandlerError::HigherVote)),
+        Outcome::HigherVote(_) => if_known(followers, from, Err(ResponseError::HigherVote)),
     }
 }
 
@@ -218,8 +218,8 @@ fn end_after(last: Option<u64>) -> u64
 fn if_known<NID: NodeId, N: Node, C: Ord + Copy>(
     followers: &Tracked<NID, N, ProgressEntryOf<C>, Option<LogIdOf<C>>>,
     id: &NID,
-    answer: Result<(), HandlerError>,
-) -> Option<Result<(), HandlerError>>
+    answer: Result<(), ResponseError>,
+) -> Option<Result<(), ResponseError>>
     ensures { result ≡ option_map (λ entry. answer)
         (member_value NID.eq (tracked_view followers.now) id.now) }
 {
@@ -231,12 +231,12 @@ fn if_known<NID: NodeId, N: Node, C: Ord + Copy>(
 
 /// The refusal of what is in flight as one of the leader.
 #[inline(always)]
-fn refuse(taken: Option<Result<(), InflightError>>) -> Option<Result<(), HandlerError>>
+fn refuse(taken: Option<Result<(), InflightError>>) -> Option<Result<(), ResponseError>>
     ensures { result ≡ option_map as_refused taken }
 {
     match taken {
         Some(Ok(())) => Some(Ok(())),
-        Some(Err(refused)) => Some(Err(HandlerError::ResponseRefused(refused))),
+        Some(Err(refused)) => Some(Err(ResponseError::Inflight(refused))),
         None => None,
     }
 }

@@ -8,7 +8,7 @@ ghost use Rattle.raft_state.specs.raft_state.Sound.{IsSound};
 ghost use Rattle.raft_state.specs.declared.entry.payload.EntryPayload.TheVariants.{Blank, Normal};
 
 use super::Leader;
-use crate::error::HandlerError;
+use crate::error::ProposeError;
 use crate::state::State;
 use raft_base::{Instant, LeaderIdentity, LogIdOf, LogIdOptionExt, LogStateReader, Node, NodeId};
 use raft_state::{EntryOf, EntryPayload};
@@ -36,7 +36,7 @@ impl<NID: NodeId, N: Node, C: Ord + Copy + Default + Drop + 'static> Leader<NID,
     pub fn propose_blank<I: Instant, L: LeaderIdentity<Id = NID, Committed = C> + Drop, D: Drop>(
         &self,
         state: &mut State<NID, N, I, L>,
-    ) -> Result<EntryOf<C, NID, N, D>, HandlerError>
+    ) -> Result<EntryOf<C, NID, N, D>, ProposeError>
         requires clones_are_equal { ClonesAreEqual N.eq N.is_clone }
         ensures appended { let by = compared NID.Ord N.eq L.LeaderIdentity C.Ord in
             IfOk result (AppendsOwn by self.now Blank state.old state.new) }
@@ -55,7 +55,7 @@ impl<NID: NodeId, N: Node, C: Ord + Copy + Default + Drop + 'static> Leader<NID,
         &self,
         state: &mut State<NID, N, I, L>,
         data: D,
-    ) -> Result<EntryOf<C, NID, N, D>, HandlerError>
+    ) -> Result<EntryOf<C, NID, N, D>, ProposeError>
         requires clones_are_equal { ClonesAreEqual N.eq N.is_clone }
         ensures appended { let by = compared NID.Ord N.eq L.LeaderIdentity C.Ord in
             IfOk result (AppendsOwn by self.now (Normal «data») state.old state.new) }
@@ -76,7 +76,7 @@ impl<NID: NodeId, N: Node, C: Ord + Copy + Default + Drop + 'static> Leader<NID,
         &self,
         state: &mut State<NID, N, I, L>,
         payload: EntryPayload<NID, N, D>,
-    ) -> Result<EntryOf<C, NID, N, D>, HandlerError>
+    ) -> Result<EntryOf<C, NID, N, D>, ProposeError>
         requires clones_are_equal { ClonesAreEqual N.eq N.is_clone }
         ensures appended { let by = compared NID.Ord N.eq L.LeaderIdentity C.Ord in
             IfOk result (AppendsOwn by self.now payload state.old state.new) }
@@ -85,20 +85,20 @@ impl<NID: NodeId, N: Node, C: Ord + Copy + Default + Drop + 'static> Leader<NID,
         ensures sound { IsSound C.eq C.cmp state.old → IsSound C.eq C.cmp state.new }
     {
         if !self.leads(state) || !state.can_accept() {
-            return Err(HandlerError::NotLeader);
+            return Err(ProposeError::NotLeader);
         }
         let last = state.last_log_id().copied();
         if !last.has_next_index() {
-            return Err(HandlerError::NoNextIndex);
+            return Err(ProposeError::NoNextIndex);
         }
         let log_id = LogIdOf::new(self.leader_id, last.next_index());
         let members = state.membership_state.effective().membership();
         let mut entries = Vec::new(*members.get_joint_config().allocator());
         let Ok(()) = entries.push(EntryOf { log_id, payload }) else {
-            return Err(HandlerError::OutOfMemory);
+            return Err(ProposeError::OutOfMemory);
         };
         if !state.can_append_entries(&entries) {
-            return Err(HandlerError::NotInOrder);
+            return Err(ProposeError::NotInOrder);
         }
         state.append_entries(&entries)?;
         state.update_accepted(Some(log_id));

@@ -16,8 +16,8 @@ use Rattle.raft_progress.specs.declared.inflight.InflightOf.{InflightOf}
 use Rattle.raft_handlers.specs.Append.{has_all, last_of}
 use Rattle.raft_handlers.specs.Leadership.{Leadership, entry_of}
 use Rattle.raft_handlers.specs.Responses.{TakesResponse, after_response, answers, as_refused}
-use Rattle.raft_handlers.specs.declared.error.HandlerError.{HandlerError}
-use Rattle.raft_handlers.specs.declared.error.HandlerError.TheVariants.{ForeignResponse, UnknownMember}
+use Rattle.raft_handlers.specs.declared.error.ResponseError.{ResponseError}
+use Rattle.raft_handlers.specs.declared.error.ResponseError.TheVariants.{Foreign, UnknownMember}
 use Rattle.raft_handlers.specs.declared.message.Outcome.TheVariants.{Matches}
 use Rattle.raft_handlers.specs.declared.message.Response.{Response}
 use Rattle.raft_state.specs.raft_state.Sound.{purged_or_logged}
@@ -61,15 +61,15 @@ module _ {K N L C : Type 0} (eq : K → K → Bool) (laws : IsEquivalence eq) (l
   Learned = (entry : ProgressEntryOf C) → entry_of eq new from ≡ Some entry → entry.matching ≡ upto
 
   -- the leader knows of the member what a response acknowledges that it has taken
-  pub learned : (r : Result (Unit {0}) HandlerError) → TakesResponse eq logs from response old new r → OnOk r Learned
+  pub learned : (r : Result (Unit {0}) ResponseError) → TakesResponse eq logs from response old new r → OnOk r Learned
   learned (Err e) takes = tt
   learned (Ok x) takes = by (answers logs.eq response old) refl
     where
-      refused : (e : HandlerError) → (let r : Result (Unit {0}) HandlerError = Ok x in r ≡ Err e) → Learned
+      refused : (e : ResponseError) → (let r : Result (Unit {0}) ResponseError = Ok x in r ≡ Err e) → Learned
       refused e is = cc
 
       with_next : answers logs.eq response old ≡ true → (entry : ProgressEntryOf C) → entry_of eq old from ≡ Some entry
-          → (r : Result (ProgressEntryOf C) HandlerError) → after_response logs.cmp entry response ≡ r → Learned
+          → (r : Result (ProgressEntryOf C) ResponseError) → after_response logs.cmp entry response ≡ r → Learned
       with_next mine entry f (Err e) is = refused e (takes.refused entry e mine f is)
       with_next mine entry f (Ok next) is = λ now known.
           let written : entry_of eq new from ≡ Some next =
@@ -85,7 +85,7 @@ module _ {K N L C : Type 0} (eq : K → K → Bool) (laws : IsEquivalence eq) (l
       with_entry mine (Some entry) f = with_next mine entry f (after_response logs.cmp entry response) refl
 
       by : (b : Bool) → answers logs.eq response old ≡ b → Learned
-      by false e = refused ForeignResponse (takes.foreign e)
+      by false e = refused Foreign (takes.foreign e)
       by true e = with_entry e (entry_of eq old from) refl
 
 -- a log that has a log id and each of some entries has the last log id of them

@@ -3,7 +3,7 @@ use Rattle.raft_handlers.proofs.lemmas.RefusalLemmas.{taken_error}
 use Rattle.raft_handlers.proofs.lemmas.TakeLemmas.{heard_answers, heard_refuses, heard_rest, not_heard}
 use Rattle.raft_handlers.proofs.lemmas.WrittenLemmas.{heard_writes, higher_writes}
 use Rattle.raft_handlers.specs.Follow.{is_followed, vote_heard}
-use Rattle.raft_handlers.specs.declared.error.HandlerError.TheVariants.{OutOfMemory}
+use Rattle.raft_handlers.specs.declared.error.AppendError.TheVariants.{OutOfMemory}
 use Rattle.raft_handlers.proofs.append.handle_append_entries.Goals as goal
 
 pub returns-in_default-clause-answers : goal.returns-in_default-clause-answers

@@ -1,4 +1,4 @@
-use Rattle.std.proofs.Common.{◌≡◌, [], ◌∷◌, ◌++◌, List, Some, false, ap, rules, sym, ◌∙◌}
+use Rattle.std.proofs.Common.{◌≡◌, [], ◌∷◌, ◌++◌, List, Some, ap, rules, sym, ◌∙◌}
 use Rattle.std.specs.Cmp.{second_so}
 use Rattle.raft_state.specs.entry.Entry.{payload_membership}
 use Rattle.raft_state.specs.declared.entry.EntryOf.{EntryOf}

@@ -9,7 +9,7 @@ use Rattle.raft_progress.specs.declared.entry.ProgressEntryOf.{ProgressEntryOf}
 use Rattle.raft_progress.specs.declared.progress.steps.Reply.TheVariants.{Granted}
 use Rattle.raft_handlers.specs.Leadership.{WritesMember}
 use Rattle.raft_handlers.specs.Responses.{after_conflict, after_outcome, after_response, as_refused}
-use Rattle.raft_handlers.specs.declared.error.HandlerError.TheVariants.{HigherVote}
+use Rattle.raft_handlers.specs.declared.error.ResponseError.TheVariants.{HigherVote}
 use Rattle.raft_handlers.proofs.lemmas.FollowerLemmas.{id_le-refl}
 use Rattle.raft_handlers.proofs.lemmas.SendLemmas.{
   ack_default,
