@@ -5,6 +5,7 @@ use Rattle.std.specs.Prelude.{
   ◌+◌,
   ◌<◌,
   ℕ,
+  nat_eq,
   max,
   Bool,
   true,
@@ -27,8 +28,9 @@ use Rattle.std.specs.Prelude.{
 }
 use Rattle.std.specs.Cmp.{IsEquivalence}
 use Rattle.std.specs.Option.{option_eq, option_zip}
-use Rattle.std.proofs.Common.{refl, sym, ap, subst, ◌∙◌, inl, inr, arith, true≢false}
+use Rattle.std.proofs.Common.{refl, sym, ap, subst, ◌∙◌, inl, inr, arith}
 use Rattle.std.proofs.lemmas.Bool.{and_parts, false≢true}
+use Rattle.std.proofs.lemmas.Bool.Decides.{nat_tests}
 use Rattle.raft_base.specs.LogId.{id_le, id_lt}
 use Rattle.raft_base.specs.declared.log_id.LogIdOf.{LogIdOf}
 use Rattle.raft_base.specs.declared.log_id.log_id_range.LogIdRangeOf.{LogIdRangeOf}
@@ -140,6 +142,9 @@ use Rattle.raft_state.specs.declared.entry.payload.EntryPayload.{EntryPayload}
 use Rattle.raft_state.specs.declared.raft_state.RaftStateIn.{RaftStateIn}
 use Rattle.raft_state.specs.membership_state.MembershipMoves.{after_commit}
 use Rattle.raft_state.proofs.lemmas.log_id_list.SameLogLemmas.{says_same}
+
+pub equal_numbers : (x y : ℕ) → nat_eq x y ≡ true → x ≡ y
+equal_numbers x y e = grind (arith, nat_tests)
 
 -- what follows from a fact about a result, if there is one
 pub if_some : {A : Type 0} {P Q : A → Type 0} (o : Option A) → IfSome o P → ((x : A) → P x → Q x) → IfSome o Q

@@ -1,7 +1,9 @@
 //! The story of three servers, over both kinds of leader ids.
 
+ghost use Rattle.std.specs.Prelude.{◌≡◌, IsTrue};
+
 use crate::story::{Known, Story, three_servers};
-use raft_base::{EmptyNode, LeaderId, LogIdOf, VoteIn, leader_id_std};
+use raft_base::{EmptyNode, LeaderId, LeaderIdentity, LogIdOf, VoteIn, leader_id_std};
 use raft_handlers::Outcome;
 use raft_members::Membership;
 use std::alloc::{AllocError, Global};
@@ -45,41 +47,33 @@ fn expected<L: Copy, C: Copy>(leader_id: L, committed_id: C) -> Story<L, C> {
     }
 }
 
-/// The story with leader ids of a term and a node, as they are by default.
-fn default_story(alloc: Global) -> Option<Story<LeaderId<u64>, LeaderId<u64>>> {
-    let Ok(members) = members(alloc) else {
-        return None;
-    };
-    three_servers::<u64, EmptyNode, u64, LeaderId<u64>, LeaderId<u64>>(alloc, (1, 2, 3), &members)
+/// Whether the servers 1, 2 and 3 go through the story, and the last leader has these ids.
+fn comes_true<
+    L: LeaderIdentity<Id = u64, Committed = C> + Drop,
+    C: Ord + Copy + Default + Drop + 'static,
+>(alloc: Global, leader_id: L, committed_id: C) -> bool
+    requires exact { (x y : C) → IsTrue (C.eq x y) → x ≡ y }
+    requires one_default { (a b : L) → L.Default.is_default a → L.Default.is_default b → a ≡ b }
+    requires one_term { (a b : L) → L.committed a ≡ L.committed b → L.term_of a ≡ L.term_of b }
+{
+    match members(alloc) {
+        Ok(members) => three_servers(alloc, &members) == Some(expected(leader_id, committed_id)),
+        Err(_) => false,
+    }
 }
 
-/// The story with leader ids of standard Raft.
-fn standard_story(
-    alloc: Global,
-) -> Option<Story<leader_id_std::LeaderId<u64>, leader_id_std::CommittedLeaderId>> {
-    let Ok(members) = members(alloc) else {
-        return None;
-    };
-    three_servers::<
-        u64,
-        EmptyNode,
-        u64,
-        leader_id_std::LeaderId<u64>,
-        leader_id_std::CommittedLeaderId,
-    >(alloc, (1, 2, 3), &members)
-}
-
+/// Leader ids of a term and a node, as they are by default.
 #[test]
 fn default_ids_tell_the_story(rt: HostRuntime) -> Result<(), Fail> {
     let leader = LeaderId::new(2, 3);
-    assert!(rt; default_story(rt.alloc()) == Some(expected(leader, leader)));
+    assert!(rt; comes_true(rt.alloc(), leader, leader));
     Ok(())
 }
 
+/// Leader ids of standard Raft.
 #[test]
 fn standard_ids_tell_the_story(rt: HostRuntime) -> Result<(), Fail> {
     let leader = leader_id_std::LeaderId::new(2, 3);
-    let story = standard_story(rt.alloc());
-    assert!(rt; story == Some(expected(leader, leader.to_committed())));
+    assert!(rt; comes_true(rt.alloc(), leader, leader.to_committed()));
     Ok(())
 }

@@ -7,14 +7,11 @@
 //! The contract of each part says what the part makes of a run, and that of `three_servers` that a
 //! run ends with what it returns. So `laws::runs_are_safe` speaks of these calls.
 ghost use Rattle.std.specs.Prelude.{◌≡◌, ℕ, false, IfSome, IsTrue};
-ghost use Rattle.std.specs.Set.{ClonesAreEqual};
-ghost use Rattle.raft_refinement_tests.specs.Story.{AreApart, AreExact, AreLogged, EndsRun, Exchanges, IsKnown, IsOfCampaign, IsStarted, LeadsAlone, LeadsBack, LeadsWith, Sends, TellsStory, Wins};
+ghost use Rattle.raft_refinement_tests.specs.Story.{AreLogged, EndsRun, Exchanges, IsKnown, IsOfCampaign, IsStarted, LeadsAlone, LeadsBack, LeadsWith, Sends, TellsStory, Wins};
 ghost use Rattle.raft_state.specs.log_id_list.FullLog.{full_log};
 ghost use Rattle.raft_state.specs.raft_state.VoteAndLog.{vote_of};
 
-use raft_base::{
-    Instant, LeaderIdentity, LogIdOf, LogIdOptionExt, LogStateReader, Node, NodeId, VoteIn,
-};
+use raft_base::{EmptyNode, LeaderIdentity, LogIdOf, LogIdOptionExt, LogStateReader, VoteIn};
 use raft_handlers::{AppendEntries, Leader, Outcome, State};
 use raft_members::Membership;
 use raft_progress::InflightOf;
@@ -45,31 +42,29 @@ pub struct Story<L, C> {
 
 /// A server campaigns, past a term that it has heard of. Another one votes for it, and it leads.
 pub fn wins<
-    NID: NodeId,
-    N: Node,
-    I: Instant,
-    L: LeaderIdentity<Id = NID, Committed = C> + Drop,
+    L: LeaderIdentity<Id = u64, Committed = C> + Drop,
     C: Ord + Copy + Default + Drop + 'static,
 >(
-    id: NID,
+    id: u64,
     term: u64,
-    state: &mut State<NID, N, I, L>,
-    voter: &NID,
-    other: &mut State<NID, N, I, L>,
-) -> Option<Leader<NID, N, C>>
-    requires clones_are_equal { ClonesAreEqual N.eq N.is_clone }
-    ensures run { IfSome result (Wins ℕ NID.Ord N.eq L.LeaderIdentity C.Ord id voter.now
+    state: &mut State<u64, EmptyNode, u64, L>,
+    voter: &u64,
+    other: &mut State<u64, EmptyNode, u64, L>,
+) -> Option<Leader<u64, EmptyNode, C>>
+    ensures run { IfSome result (Wins ℕ ⟦<u64 as Ord>⟧ ⟦<EmptyNode as PartialEq>⟧.eq
+        L.LeaderIdentity C.Ord id voter.now
         state.old state.new other.old other.new) }
     ensures of_campaign { IfSome result (λ _.
         IsOfCampaign L.LeaderIdentity id (vote_of state.new).leader_id) }
 {
-    let Ok(mut candidate) = step::campaigns::<NID, N, I, L, C, u64>(id, term, state) else {
+    let Ok(mut candidate) = step::campaigns::<u64, EmptyNode, u64, L, C, u64>(id, term, state)
+    else {
         return None;
     };
     let request = candidate.request();
-    let response = step::answers_candidate::<NID, N, I, L, u64>(other, &request);
-    step::counts::<NID, N, I, L, C, u64>(&mut candidate, voter, &response);
-    let made = step::leads::<NID, N, I, L, C, u64>(state, &candidate);
+    let response = step::answers_candidate::<u64, EmptyNode, u64, L, u64>(other, &request);
+    step::counts::<u64, EmptyNode, u64, L, C, u64>(&mut candidate, voter, &response);
+    let made = step::leads::<u64, EmptyNode, u64, L, C, u64>(state, &candidate);
     drop(candidate);
     let Ok(leader) = made else {
         return None;
@@ -79,20 +74,17 @@ pub fn wins<
 
 /// A leader writes a blank entry at the end of its log, which is not empty.
 pub fn writes<
-    NID: NodeId,
-    N: Node,
-    I: Instant,
-    L: LeaderIdentity<Id = NID, Committed = C> + Drop,
+    L: LeaderIdentity<Id = u64, Committed = C> + Drop,
     C: Ord + Copy + Default + Drop + 'static,
->(leader: &Leader<NID, N, C>, state: &mut State<NID, N, I, L>) -> Option<()>
-    requires clones_are_equal { ClonesAreEqual N.eq N.is_clone }
-    ensures run { IfSome result (λ _. LeadsAlone ℕ NID.Ord N.eq L.LeaderIdentity C.Ord
+>(leader: &Leader<u64, EmptyNode, C>, state: &mut State<u64, EmptyNode, u64, L>) -> Option<()>
+    ensures run { IfSome result (λ _. LeadsAlone ℕ ⟦<u64 as Ord>⟧ ⟦<EmptyNode as PartialEq>⟧.eq
+        L.LeaderIdentity C.Ord
         state.old state.new leader.now leader.now) }
 {
     let Some(_last) = state.last_log_id().copied() else {
         return None;
     };
-    let Ok(_entry) = step::proposes_blank::<NID, N, I, L, C, u64>(leader, state) else {
+    let Ok(_entry) = step::proposes_blank::<u64, EmptyNode, u64, L, C, u64>(leader, state) else {
         return None;
     };
     Some(())
@@ -100,18 +92,14 @@ pub fn writes<
 
 /// Reads entries of a log from the disk. Index 0 has the membership, and every other entry is blank.
 fn entries<
-    NID: NodeId,
-    N: Node,
-    I: Instant,
-    L: LeaderIdentity<Id = NID, Committed = C> + Drop,
+    L: LeaderIdentity<Id = u64, Committed = C> + Drop,
     C: Ord + Copy + Default + Drop + 'static,
 >(
-    state: &State<NID, N, I, L>,
-    members: &Membership<NID, N>,
+    state: &State<u64, EmptyNode, u64, L>,
+    members: &Membership<u64, EmptyNode>,
     from: u64,
     until: u64,
-) -> Option<Vec<EntryOf<C, NID, N, u64>>>
-    requires clones_are_equal { ClonesAreEqual N.eq N.is_clone }
+) -> Option<Vec<EntryOf<C, u64, EmptyNode, u64>>>
     ensures logged { IfSome result (λ read. AreLogged (full_log state.now.log_ids) read.items) }
 {
     let mut read = Vec::new(*members.get_joint_config().allocator());
@@ -136,23 +124,20 @@ fn entries<
 
 /// A leader sends a follower the entries that it may lack.
 pub fn sends<
-    NID: NodeId,
-    N: Node,
-    I: Instant,
-    L: LeaderIdentity<Id = NID, Committed = C> + Drop,
+    L: LeaderIdentity<Id = u64, Committed = C> + Drop,
     C: Ord + Copy + Default + Drop + 'static,
 >(
-    leader: &mut Leader<NID, N, C>,
-    state: &State<NID, N, I, L>,
-    to: &NID,
-    members: &Membership<NID, N>,
-) -> Option<AppendEntries<L, C, NID, N, u64>>
-    requires clones_are_equal { ClonesAreEqual N.eq N.is_clone }
-    ensures run { IfSome result (Sends ℕ NID.Ord N.eq L.LeaderIdentity C.Ord
+    leader: &mut Leader<u64, EmptyNode, C>,
+    state: &State<u64, EmptyNode, u64, L>,
+    to: &u64,
+    members: &Membership<u64, EmptyNode>,
+) -> Option<AppendEntries<L, C, u64, EmptyNode, u64>>
+    ensures run { IfSome result (Sends ℕ ⟦<u64 as Ord>⟧ ⟦<EmptyNode as PartialEq>⟧.eq
+        L.LeaderIdentity C.Ord
         state.now leader.old leader.new) }
     ensures own { IfSome result (λ request. request.leader_id ≡ (vote_of state.now).leader_id) }
 {
-    let Some(sending) = step::sends::<NID, N, I, L, C, u64>(leader, state, to, 64) else {
+    let Some(sending) = step::sends::<u64, EmptyNode, u64, L, C, u64>(leader, state, to, 64) else {
         return None;
     };
     let InflightOf::Logs { id, log_id_range } = sending else {
@@ -176,22 +161,20 @@ pub fn sends<
 
 /// A leader that waits for an answer sends a heartbeat about its last log id.
 pub fn beats<
-    NID: NodeId,
-    N: Node,
-    I: Instant,
-    L: LeaderIdentity<Id = NID, Committed = C> + Drop,
+    L: LeaderIdentity<Id = u64, Committed = C> + Drop,
     C: Ord + Copy + Default + Drop + 'static,
 >(
-    leader: &mut Leader<NID, N, C>,
-    state: &State<NID, N, I, L>,
-    to: &NID,
+    leader: &mut Leader<u64, EmptyNode, C>,
+    state: &State<u64, EmptyNode, u64, L>,
+    to: &u64,
     alloc: Global,
-) -> Option<AppendEntries<L, C, NID, N, u64>>
-    ensures run { IfSome result (Sends ℕ NID.Ord N.eq L.LeaderIdentity C.Ord
+) -> Option<AppendEntries<L, C, u64, EmptyNode, u64>>
+    ensures run { IfSome result (Sends ℕ ⟦<u64 as Ord>⟧ ⟦<EmptyNode as PartialEq>⟧.eq
+        L.LeaderIdentity C.Ord
         state.now leader.old leader.new) }
     ensures own { IfSome result (λ request. request.leader_id ≡ (vote_of state.now).leader_id) }
 {
-    let Some(sending) = step::sends::<NID, N, I, L, C, u64>(leader, state, to, 64) else {
+    let Some(sending) = step::sends::<u64, EmptyNode, u64, L, C, u64>(leader, state, to, 64) else {
         return None;
     };
     let InflightOf::None = sending else {
@@ -211,22 +194,19 @@ pub fn beats<
 
 /// A follower answers a request, and the leader takes the answer. Returns what it is.
 pub fn exchanges<
-    NID: NodeId,
-    N: Node,
-    I: Instant,
-    L: LeaderIdentity<Id = NID, Committed = C> + Drop,
+    L: LeaderIdentity<Id = u64, Committed = C> + Drop,
     C: Ord + Copy + Default + Drop + 'static,
 >(
-    leader: &mut Leader<NID, N, C>,
-    to: &NID,
-    follower: &mut State<NID, N, I, L>,
-    request: &AppendEntries<L, C, NID, N, u64>,
+    leader: &mut Leader<u64, EmptyNode, C>,
+    to: &u64,
+    follower: &mut State<u64, EmptyNode, u64, L>,
+    request: &AppendEntries<L, C, u64, EmptyNode, u64>,
 ) -> Option<Outcome<L, C>>
-    requires clones_are_equal { ClonesAreEqual N.eq N.is_clone }
-    ensures run { IfSome result (λ outcome. Exchanges ℕ NID.Ord N.eq L.LeaderIdentity C.Ord to.now
+    ensures run { IfSome result (λ outcome. Exchanges ℕ ⟦<u64 as Ord>⟧ ⟦<EmptyNode as PartialEq>⟧.eq
+        L.LeaderIdentity C.Ord to.now
         follower.old follower.new request.now outcome leader.old leader.new) }
 {
-    let Ok(made) = step::answers_leader::<NID, N, I, L, u64>(follower, request) else {
+    let Ok(made) = step::answers_leader::<u64, EmptyNode, u64, L, u64>(follower, request) else {
         return None;
     };
     let Ok(()) = leader.handle_response(to, &made.0) else {
@@ -237,20 +217,18 @@ pub fn exchanges<
 
 /// A leader, whose log is on disk, counts itself, and commits what a quorum has.
 pub fn commits<
-    NID: NodeId,
-    N: Node,
-    I: Instant,
-    L: LeaderIdentity<Id = NID, Committed = C> + Drop,
+    L: LeaderIdentity<Id = u64, Committed = C> + Drop,
     C: Ord + Copy + Default + Drop + 'static,
->(leader: &mut Leader<NID, N, C>, state: &mut State<NID, N, I, L>) -> Option<bool>
-    ensures run { IfSome result (λ _. LeadsAlone ℕ NID.Ord N.eq L.LeaderIdentity C.Ord
+>(leader: &mut Leader<u64, EmptyNode, C>, state: &mut State<u64, EmptyNode, u64, L>) -> Option<bool>
+    ensures run { IfSome result (λ _. LeadsAlone ℕ ⟦<u64 as Ord>⟧ ⟦<EmptyNode as PartialEq>⟧.eq
+        L.LeaderIdentity C.Ord
         state.old state.new leader.old leader.new) }
 {
     let upto = state.last_log_id().copied();
     let Ok(()) = leader.handle_flushed(state, upto) else {
         return None;
     };
-    let Ok(more) = step::commits::<NID, N, I, L, C, u64>(leader, state) else {
+    let Ok(more) = step::commits::<u64, EmptyNode, u64, L, C, u64>(leader, state) else {
         return None;
     };
     Some(more)
@@ -258,20 +236,17 @@ pub fn commits<
 
 /// A leader writes an entry, replicates it to a follower, and commits it.
 pub fn replicates<
-    NID: NodeId,
-    N: Node,
-    I: Instant,
-    L: LeaderIdentity<Id = NID, Committed = C> + Drop,
+    L: LeaderIdentity<Id = u64, Committed = C> + Drop,
     C: Ord + Copy + Default + Drop + 'static,
 >(
-    leader: &mut Leader<NID, N, C>,
-    state: &mut State<NID, N, I, L>,
-    to: &NID,
-    follower: &mut State<NID, N, I, L>,
-    members: &Membership<NID, N>,
+    leader: &mut Leader<u64, EmptyNode, C>,
+    state: &mut State<u64, EmptyNode, u64, L>,
+    to: &u64,
+    follower: &mut State<u64, EmptyNode, u64, L>,
+    members: &Membership<u64, EmptyNode>,
 ) -> Option<bool>
-    requires clones_are_equal { ClonesAreEqual N.eq N.is_clone }
-    ensures run { IfSome result (λ _. LeadsWith ℕ NID.Ord N.eq L.LeaderIdentity C.Ord to.now
+    ensures run { IfSome result (λ _. LeadsWith ℕ ⟦<u64 as Ord>⟧ ⟦<EmptyNode as PartialEq>⟧.eq
+        L.LeaderIdentity C.Ord to.now
         state.old state.new follower.old follower.new leader.old leader.new) }
 {
     let Some(()) = writes(leader, state) else {
@@ -290,20 +265,17 @@ pub fn replicates<
 /// logs conflict. Then the follower takes the entries that are sent again. Returns the answer to the
 /// heartbeat.
 pub fn hears_again<
-    NID: NodeId,
-    N: Node,
-    I: Instant,
-    L: LeaderIdentity<Id = NID, Committed = C> + Drop,
+    L: LeaderIdentity<Id = u64, Committed = C> + Drop,
     C: Ord + Copy + Default + Drop + 'static,
 >(
-    leader: &mut Leader<NID, N, C>,
-    state: &State<NID, N, I, L>,
-    to: &NID,
-    follower: &mut State<NID, N, I, L>,
-    members: &Membership<NID, N>,
+    leader: &mut Leader<u64, EmptyNode, C>,
+    state: &State<u64, EmptyNode, u64, L>,
+    to: &u64,
+    follower: &mut State<u64, EmptyNode, u64, L>,
+    members: &Membership<u64, EmptyNode>,
 ) -> Option<Outcome<L, C>>
-    requires clones_are_equal { ClonesAreEqual N.eq N.is_clone }
-    ensures run { IfSome result (λ outcome. LeadsBack ℕ NID.Ord N.eq L.LeaderIdentity C.Ord to.now
+    ensures run { IfSome result (λ outcome. LeadsBack ℕ ⟦<u64 as Ord>⟧ ⟦<EmptyNode as PartialEq>⟧.eq
+        L.LeaderIdentity C.Ord to.now
         state.now follower.old follower.new outcome leader.old leader.new) }
 {
     let Some(_lost) = sends(leader, state, to, members) else {
@@ -327,22 +299,22 @@ pub fn hears_again<
 
 /// A new server, in a cluster with these members.
 fn server<
-    NID: NodeId,
-    N: Node,
-    I: Instant,
-    L: LeaderIdentity<Id = NID, Committed = C> + Drop,
+    L: LeaderIdentity<Id = u64, Committed = C> + Drop,
     C: Ord + Copy + Default + Drop + 'static,
->(alloc: Global, id: &NID, members: &Membership<NID, N>) -> Option<State<NID, N, I, L>>
-    requires clones_are_equal { ClonesAreEqual N.eq N.is_clone }
+>(
+    alloc: Global,
+    id: &u64,
+    members: &Membership<u64, EmptyNode>,
+) -> Option<State<u64, EmptyNode, u64, L>>
     ensures started { IfSome result (IsStarted L.LeaderIdentity C.Ord members.now.configs) }
 {
     let Ok(members) = members.try_clone() else {
         return None;
     };
-    let Ok(mut state) = first::begins::<NID, N, I, L>(alloc) else {
+    let Ok(mut state) = first::begins::<u64, EmptyNode, u64, L>(alloc) else {
         return None;
     };
-    let Ok(_entries) = first::starts::<NID, N, I, L, u64>(&mut state, id, members) else {
+    let Ok(_entries) = first::starts::<u64, EmptyNode, u64, L, u64>(&mut state, id, members) else {
         return None;
     };
     Some(state)
@@ -351,23 +323,19 @@ fn server<
 /// The story: the first server is elected and writes an entry, the third one replicates and commits
 /// another one, and hears of the first one again. Returns what the first one has answered then.
 pub fn tell<
-    NID: NodeId,
-    N: Node,
-    I: Instant,
-    L: LeaderIdentity<Id = NID, Committed = C> + Drop,
+    L: LeaderIdentity<Id = u64, Committed = C> + Drop,
     C: Ord + Copy + Default + Drop + 'static,
 >(
-    ids: (NID, NID, NID),
-    one: &mut State<NID, N, I, L>,
-    two: &mut State<NID, N, I, L>,
-    three: &mut State<NID, N, I, L>,
-    members: &Membership<NID, N>,
+    one: &mut State<u64, EmptyNode, u64, L>,
+    two: &mut State<u64, EmptyNode, u64, L>,
+    three: &mut State<u64, EmptyNode, u64, L>,
+    members: &Membership<u64, EmptyNode>,
 ) -> Option<Outcome<L, C>>
-    requires clones_are_equal { ClonesAreEqual N.eq N.is_clone }
-    ensures tells { IfSome result (TellsStory ℕ NID.Ord N.eq L.LeaderIdentity C.Ord
-        ids.0 ids.1 ids.2 one.old two.old three.old one.new two.new three.new) }
+    ensures tells { IfSome result (TellsStory ℕ ⟦<u64 as Ord>⟧ ⟦<EmptyNode as PartialEq>⟧.eq
+        L.LeaderIdentity C.Ord
+        1 2 3 one.old two.old three.old one.new two.new three.new) }
 {
-    let Some(first) = wins(ids.0, 0, one, &ids.1, two) else {
+    let Some(first) = wins(1, 0, one, &2, two) else {
         return None;
     };
     let wrote = writes(&first, one);
@@ -375,18 +343,18 @@ pub fn tell<
     let Some(()) = wrote else {
         return None;
     };
-    let Some(mut second) = wins(ids.2, 1, three, &ids.1, two) else {
+    let Some(mut second) = wins(3, 1, three, &2, two) else {
         return None;
     };
-    let Some(_more) = replicates(&mut second, three, &ids.1, two, members) else {
+    let Some(_more) = replicates(&mut second, three, &2, two, members) else {
         return None;
     };
-    hears_again(&mut second, three, &ids.0, one, members)
+    hears_again(&mut second, three, &1, one, members)
 }
 
 /// Reads what is known of a server.
-fn knows<NID: NodeId, N: Node, I: Instant, L: Copy + Drop, C: Ord + Copy + Drop>(
-    state: &RaftStateIn<NID, N, I, L, C>,
+fn knows<L: Copy + Drop, C: Ord + Copy + Drop>(
+    state: &RaftStateIn<u64, EmptyNode, u64, L, C>,
 ) -> Known<L, C>
     ensures { IsKnown state.now result }
 {
@@ -397,35 +365,25 @@ fn knows<NID: NodeId, N: Node, I: Instant, L: Copy + Drop, C: Ord + Copy + Drop>
     }
 }
 
-/// Three servers with these ids, which are the members of a cluster, go through the story. The
-/// result is `None` if there is no memory.
+/// The servers 1, 2 and 3, which are the members of a cluster, go through the story. The result is
+/// `None` if there is no memory.
 pub fn three_servers<
-    NID: NodeId,
-    N: Node,
-    I: Instant,
-    L: LeaderIdentity<Id = NID, Committed = C> + Drop,
+    L: LeaderIdentity<Id = u64, Committed = C> + Drop,
     C: Ord + Copy + Default + Drop + 'static,
->(alloc: Global, ids: (NID, NID, NID), members: &Membership<NID, N>) -> Option<Story<L, C>>
-    requires clones_are_equal { ClonesAreEqual N.eq N.is_clone }
-    requires exact { AreExact NID.Ord C.Ord }
-    requires apart { AreApart NID.Ord ids.0 ids.1 ids.2 }
+>(alloc: Global, members: &Membership<u64, EmptyNode>) -> Option<Story<L, C>>
+    requires exact { (x y : C) → IsTrue (C.eq x y) → x ≡ y }
     requires one_default { (a b : L) → L.Default.is_default a → L.Default.is_default b → a ≡ b }
     requires one_term { (a b : L) → L.committed a ≡ L.committed b → L.term_of a ≡ L.term_of b }
-    ensures run { IfSome result (EndsRun I ℕ NID.Ord N.eq L.LeaderIdentity C.Ord ids.0 ids.1 ids.2) }
+    ensures run { IfSome result (EndsRun ℕ ℕ ⟦<u64 as Ord>⟧ ⟦<EmptyNode as PartialEq>⟧.eq
+        L.LeaderIdentity C.Ord 1 2 3) }
 {
-    let one = server::<NID, N, I, L, C>(alloc, &ids.0, members);
-    let two = server::<NID, N, I, L, C>(alloc, &ids.1, members);
-    let three = server::<NID, N, I, L, C>(alloc, &ids.2, members);
+    let one = server::<L, C>(alloc, &1, members);
+    let two = server::<L, C>(alloc, &2, members);
+    let three = server::<L, C>(alloc, &3, members);
     let Some(mut servers) = one.zip(two).zip(three) else {
         return None;
     };
-    let told = tell(
-        ids,
-        &mut servers.0.0,
-        &mut servers.0.1,
-        &mut servers.1,
-        members,
-    );
+    let told = tell(&mut servers.0.0, &mut servers.0.1, &mut servers.1, members);
     let one = knows(&servers.0.0);
     let two = knows(&servers.0.1);
     let three = knows(&servers.1);

@@ -1,17 +1,14 @@
-use Rattle.std.specs.Prelude.{ℕ}
+use Rattle.std.specs.Prelude.{ℕ, Some, nat_eq}
+use Rattle.std.specs.Cmp.{nat_eq_equiv}
+use Rattle.std.specs.Ordering.{nat_cmp}
 use Rattle.raft_handlers.specs.Compared.{LeaderMembers}
 use Rattle.raft_progress.specs.progress.Comparisons.{OrdMembers}
-use Rattle.std.proofs.Common.{refl, sym, ap, ◌∙◌}
 use Rattle.raft_refinement_tests.proofs.StoryLemmas.{commits}
 use Rattle.raft_refinement_tests.proofs.story.commits.Goals as goal
 
 pub returns : goal.returns
 returns g c =
-    let ids : OrdMembers _ = record {
-      partial_cmp = g.NID.PartialOrd.partial_cmp;
-      eq = g.NID.PartialEq.eq;
-      cmp = g.NID.Ord.cmp;
-    } in
+    let ids : OrdMembers ℕ = record { partial_cmp = λ x y. Some (nat_cmp x y); eq = nat_eq; cmp = nat_cmp } in
     let logs : OrdMembers _ = record {
       partial_cmp = g.C.PartialOrd.partial_cmp;
       eq = g.C.PartialEq.eq;
@@ -30,7 +27,7 @@ returns g c =
     } in
     let flushed = c.in-Ok.ensures in
     record {
-      run = commits g.row.I.Denot ℕ ids g.N.PartialEq.eq kind logs g.met.NID.Eq.laws c.args.state.now c.commits.new.state c.args.leader.now c.handle_flushed.new.self c.copied-upto.result
+      run = commits ℕ ℕ ids _ kind logs nat_eq_equiv c.args.state.now c.commits.new.state c.args.leader.now c.handle_flushed.new.self c.copied-upto.result
           c.in-Ok-commits.more flushed.logged flushed.counted c.handle_flushed.ensures.stale c.handle_flushed.ensures.not_counted
           c.handle_flushed.ensures.members c.handle_flushed.ensures.node c.in-Ok-commits.ensures.step c.in-Ok-commits.ensures.call;
     }

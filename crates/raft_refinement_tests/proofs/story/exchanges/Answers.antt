@@ -1,4 +1,6 @@
-use Rattle.std.specs.Prelude.{ℕ}
+use Rattle.std.specs.Prelude.{ℕ, Some, nat_eq}
+use Rattle.std.specs.Cmp.{nat_eq_equiv}
+use Rattle.std.specs.Ordering.{nat_cmp}
 use Rattle.raft_handlers.specs.Compared.{LeaderMembers}
 use Rattle.raft_progress.specs.progress.Comparisons.{OrdMembers}
 use Rattle.raft_refinement_tests.proofs.StoryLemmas.{exchanges}
@@ -6,11 +8,7 @@ use Rattle.raft_refinement_tests.proofs.story.exchanges.Goals as goal
 
 pub returns : goal.returns
 returns g c =
-    let ids : OrdMembers _ = record {
-      partial_cmp = g.NID.PartialOrd.partial_cmp;
-      eq = g.NID.PartialEq.eq;
-      cmp = g.NID.Ord.cmp;
-    } in
+    let ids : OrdMembers ℕ = record { partial_cmp = λ x y. Some (nat_cmp x y); eq = nat_eq; cmp = nat_cmp } in
     let logs : OrdMembers _ = record {
       partial_cmp = g.C.PartialOrd.partial_cmp;
       eq = g.C.PartialEq.eq;
@@ -28,6 +26,6 @@ returns g c =
       same_as = g.L.LeaderIdentity.same_as;
     } in
     record {
-      run = exchanges g.row.I.Denot ℕ ids g.N.PartialEq.eq kind logs g.met.NID.Eq.laws c.args.to.now c.args.follower.now c.answers_leader.new.state c.args.request.now c.in-Ok.made.0
+      run = exchanges ℕ ℕ ids _ kind logs nat_eq_equiv c.args.to.now c.args.follower.now c.answers_leader.new.state c.args.request.now c.in-Ok.made.0
           c.args.leader.now c.handle_response.new.self tt c.in-Ok.ensures.step c.in-Ok-handle_response.ensures.takes;
     }

@@ -1,4 +1,6 @@
-use Rattle.std.specs.Prelude.{ℕ}
+use Rattle.std.specs.Prelude.{ℕ, Some, nat_eq}
+use Rattle.std.specs.Cmp.{nat_eq_equiv}
+use Rattle.std.specs.Ordering.{nat_cmp}
 use Rattle.raft_handlers.specs.Compared.{LeaderMembers}
 use Rattle.raft_progress.specs.progress.Comparisons.{OrdMembers}
 use Rattle.raft_refinement_tests.proofs.StoryLemmas.{hears_again}
@@ -6,11 +8,7 @@ use Rattle.raft_refinement_tests.proofs.story.hears_again.Goals as goal
 
 pub returns : goal.returns
 returns g c =
-    let ids : OrdMembers _ = record {
-      partial_cmp = g.NID.PartialOrd.partial_cmp;
-      eq = g.NID.PartialEq.eq;
-      cmp = g.NID.Ord.cmp;
-    } in
+    let ids : OrdMembers ℕ = record { partial_cmp = λ x y. Some (nat_cmp x y); eq = nat_eq; cmp = nat_cmp } in
     let logs : OrdMembers _ = record {
       partial_cmp = g.C.PartialOrd.partial_cmp;
       eq = g.C.PartialEq.eq;
@@ -28,7 +26,7 @@ returns g c =
       same_as = g.L.LeaderIdentity.same_as;
     } in
     record {
-      run = hears_again g.row.I.Denot ℕ ids g.N.PartialEq.eq kind logs g.met.NID.Eq.laws c.args.to.now c.args.state.now c.args.follower.now c.exchanges.new.follower
+      run = hears_again ℕ ℕ ids _ kind logs nat_eq_equiv c.args.to.now c.args.state.now c.args.follower.now c.exchanges.new.follower
           c.exchanges-2.new.follower c.args.leader.now c.sends.new.leader c.beats.new.leader c.exchanges.new.leader c.give_up.new.self
           c.sends-2.new.leader c.exchanges-2.new.leader c.in-Some._lost c.in-Some-beats.heartbeat c.in-Some-sends.request
           c.in-Some-exchanges.answer c.in-Some-exchanges-2._outcome c.in-Some.ensures.run c.in-Some-beats.ensures.run

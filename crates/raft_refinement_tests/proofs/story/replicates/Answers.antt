@@ -1,4 +1,6 @@
-use Rattle.std.specs.Prelude.{ℕ}
+use Rattle.std.specs.Prelude.{ℕ, Some, nat_eq}
+use Rattle.std.specs.Cmp.{nat_eq_equiv}
+use Rattle.std.specs.Ordering.{nat_cmp}
 use Rattle.raft_handlers.specs.Compared.{LeaderMembers}
 use Rattle.raft_progress.specs.progress.Comparisons.{OrdMembers}
 use Rattle.raft_refinement_tests.proofs.StoryLemmas.{if_some, replicates}
@@ -6,11 +8,7 @@ use Rattle.raft_refinement_tests.proofs.story.replicates.Goals as goal
 
 pub returns : goal.returns
 returns g c =
-    let ids : OrdMembers _ = record {
-      partial_cmp = g.NID.PartialOrd.partial_cmp;
-      eq = g.NID.PartialEq.eq;
-      cmp = g.NID.Ord.cmp;
-    } in
+    let ids : OrdMembers ℕ = record { partial_cmp = λ x y. Some (nat_cmp x y); eq = nat_eq; cmp = nat_cmp } in
     let logs : OrdMembers _ = record {
       partial_cmp = g.C.PartialOrd.partial_cmp;
       eq = g.C.PartialEq.eq;
@@ -30,7 +28,7 @@ returns g c =
     record {
       run = if_some c.commits.result c.commits.ensures.run
           (λ more commit.
-          replicates g.row.I.Denot ℕ ids g.N.PartialEq.eq kind logs g.met.NID.Eq.laws c.args.to.now c.args.state.now c.writes.new.state c.commits.new.state c.args.follower.now
+          replicates ℕ ℕ ids _ kind logs nat_eq_equiv c.args.to.now c.args.state.now c.writes.new.state c.commits.new.state c.args.follower.now
           c.exchanges.new.follower c.args.leader.now c.sends.new.leader c.exchanges.new.leader c.commits.new.leader
           c.in-Some-sends.request c.in-Some-exchanges._outcome c.in-Some.ensures.run c.in-Some-sends.ensures.run
           c.in-Some-sends.ensures.own c.in-Some-exchanges.ensures.run commit);

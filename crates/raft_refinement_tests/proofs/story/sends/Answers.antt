@@ -1,4 +1,6 @@
-use Rattle.std.specs.Prelude.{ℕ, Some, None}
+use Rattle.std.specs.Prelude.{ℕ, Some, nat_eq}
+use Rattle.std.specs.Cmp.{nat_eq_equiv}
+use Rattle.std.specs.Ordering.{nat_cmp}
 use Rattle.raft_handlers.specs.Compared.{LeaderMembers}
 use Rattle.raft_progress.specs.progress.Comparisons.{OrdMembers}
 use Rattle.std.proofs.Common.{refl, ap}
@@ -9,11 +11,7 @@ use Rattle.raft_refinement_tests.proofs.story.sends.Goals as goal
 
 pub returns : goal.returns
 returns g c =
-    let ids : OrdMembers _ = record {
-      partial_cmp = g.NID.PartialOrd.partial_cmp;
-      eq = g.NID.PartialEq.eq;
-      cmp = g.NID.Ord.cmp;
-    } in
+    let ids : OrdMembers ℕ = record { partial_cmp = λ x y. Some (nat_cmp x y); eq = nat_eq; cmp = nat_cmp } in
     let logs : OrdMembers _ = record {
       partial_cmp = g.C.PartialOrd.partial_cmp;
       eq = g.C.PartialEq.eq;
@@ -38,7 +36,7 @@ returns g c =
       committed = c.args.state.now.committed;
     } in
     record {
-      run = sends g.row.I.Denot ℕ ids g.N.PartialEq.eq kind logs g.met.NID.Eq.laws c.args.state.now c.args.to.now 64 c.args.leader.now c.sends.new.leader c.in-Some.sending request
+      run = sends ℕ ℕ ids _ kind logs nat_eq_equiv c.args.state.now c.args.to.now 64 c.args.leader.now c.sends.new.leader c.in-Some.sending request
           c.in-Some.ensures.step c.in-Some.ensures.call (ap (λ v. v.leader_id) c.vote_ref.ensures)
           (carries_logs (full_log c.args.state.now.log_ids) c.in-Some.sending c.in-Logs.id c.in-Logs.log_id_range c.in-Logs.is)
           c.in-Some-entries.ensures.logged refl;

@@ -1,4 +1,5 @@
-use Rattle.std.specs.Prelude.{ℕ}
+use Rattle.std.specs.Prelude.{ℕ, Some, nat_eq}
+use Rattle.std.specs.Ordering.{nat_cmp}
 use Rattle.raft_handlers.specs.Compared.{LeaderMembers}
 use Rattle.raft_progress.specs.progress.Comparisons.{OrdMembers}
 use Rattle.std.proofs.Common.{rules}
@@ -7,11 +8,7 @@ use Rattle.raft_refinement_tests.proofs.story.server.Goals as goal
 
 pub starts-requires : goal.starts-requires
 starts-requires g c =
-    let ids : OrdMembers _ = record {
-      partial_cmp = g.NID.PartialOrd.partial_cmp;
-      eq = g.NID.PartialEq.eq;
-      cmp = g.NID.Ord.cmp;
-    } in
+    let ids : OrdMembers ℕ = record { partial_cmp = λ x y. Some (nat_cmp x y); eq = nat_eq; cmp = nat_cmp } in
     let logs : OrdMembers _ = record {
       partial_cmp = g.C.PartialOrd.partial_cmp;
       eq = g.C.PartialEq.eq;
@@ -33,11 +30,7 @@ starts-requires g c =
 
 pub returns : goal.returns
 returns g c =
-    let ids : OrdMembers _ = record {
-      partial_cmp = g.NID.PartialOrd.partial_cmp;
-      eq = g.NID.PartialEq.eq;
-      cmp = g.NID.Ord.cmp;
-    } in
+    let ids : OrdMembers ℕ = record { partial_cmp = λ x y. Some (nat_cmp x y); eq = nat_eq; cmp = nat_cmp } in
     let logs : OrdMembers _ = record {
       partial_cmp = g.C.PartialOrd.partial_cmp;
       eq = g.C.PartialEq.eq;
@@ -56,7 +49,7 @@ returns g c =
     } in
     let begun = c.in-Ok-begins.ensures in
     record {
-      started = is_started ids g.N.PartialEq.eq kind logs begun.new.0 c.args.members.now.configs c.in-Ok-begins.state c.starts.new.state _
+      started = is_started ids _ kind logs begun.new.0 c.args.members.now.configs c.in-Ok-begins.state c.starts.new.state _
           c.in-Ok.members c.in-Ok-starts._entries.items begun.new.1 begun.new.2 begun.first_term c.starts.ensures.new
           c.in-Ok-starts.ensures.call c.in-Ok-starts.ensures.decides c.in-Ok.ensures.configs;
     }

@@ -1,4 +1,6 @@
-use Rattle.std.specs.Prelude.{ℕ}
+use Rattle.std.specs.Prelude.{ℕ, Some, nat_eq}
+use Rattle.std.specs.Cmp.{nat_eq_equiv}
+use Rattle.std.specs.Ordering.{nat_cmp}
 use Rattle.raft_handlers.specs.Compared.{LeaderMembers}
 use Rattle.raft_progress.specs.progress.Comparisons.{OrdMembers}
 use Rattle.raft_refinement_tests.proofs.StoryLemmas.{if_some, some_of, tells}
@@ -6,11 +8,7 @@ use Rattle.raft_refinement_tests.proofs.story.tell.Goals as goal
 
 pub returns : goal.returns
 returns g c =
-    let ids : OrdMembers _ = record {
-      partial_cmp = g.NID.PartialOrd.partial_cmp;
-      eq = g.NID.PartialEq.eq;
-      cmp = g.NID.Ord.cmp;
-    } in
+    let ids : OrdMembers ℕ = record { partial_cmp = λ x y. Some (nat_cmp x y); eq = nat_eq; cmp = nat_cmp } in
     let logs : OrdMembers _ = record {
       partial_cmp = g.C.PartialOrd.partial_cmp;
       eq = g.C.PartialEq.eq;
@@ -30,7 +28,7 @@ returns g c =
     record {
       tells = if_some c.hears_again.result c.hears_again.ensures.run
           (λ answer back.
-          tells g.row.I.Denot ℕ ids g.N.PartialEq.eq kind logs g.met.NID.Eq.laws c.args.ids.0 c.args.ids.1 c.args.ids.2 c.args.one.now c.wins.new.state c.writes-wrote.new.state
+          tells ℕ ℕ ids _ kind logs nat_eq_equiv 1 2 3 c.args.one.now c.wins.new.state c.writes-wrote.new.state
           c.hears_again.new.follower c.args.two.now c.wins.new.other c.wins-2.new.other c.replicates.new.follower c.args.three.now
           c.wins-2.new.state c.replicates.new.state c.in-Some.first c.in-Some-wins.second c.replicates.new.leader
           c.hears_again.new.leader answer c.in-Some.ensures.run c.in-Some.ensures.of_campaign

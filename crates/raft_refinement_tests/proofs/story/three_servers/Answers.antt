@@ -1,16 +1,15 @@
-use Rattle.std.specs.Prelude.{ℕ}
+use Rattle.std.specs.Prelude.{ℕ, Some, nat_eq}
+use Rattle.std.specs.Cmp.{nat_eq_equiv}
+use Rattle.std.specs.Ordering.{nat_cmp}
 use Rattle.raft_handlers.specs.Compared.{LeaderMembers}
 use Rattle.raft_progress.specs.progress.Comparisons.{OrdMembers}
-use Rattle.raft_refinement_tests.proofs.StoryLemmas.{all_of, ends_run, some_of}
+use Rattle.std.proofs.Common.{refl}
+use Rattle.raft_refinement_tests.proofs.StoryLemmas.{all_of, ends_run, equal_numbers, some_of}
 use Rattle.raft_refinement_tests.proofs.story.three_servers.Goals as goal
 
 pub returns : goal.returns
 returns g c =
-    let ids : OrdMembers _ = record {
-      partial_cmp = g.NID.PartialOrd.partial_cmp;
-      eq = g.NID.PartialEq.eq;
-      cmp = g.NID.Ord.cmp;
-    } in
+    let ids : OrdMembers ℕ = record { partial_cmp = λ x y. Some (nat_cmp x y); eq = nat_eq; cmp = nat_cmp } in
     let logs : OrdMembers _ = record {
       partial_cmp = g.C.PartialOrd.partial_cmp;
       eq = g.C.PartialEq.eq;
@@ -31,9 +30,10 @@ returns g c =
     c.zip.ensures c.zip-2.ensures c.in-Some.is c.server-one.ensures.started c.server-two.ensures.started
     c.server-three.ensures.started in
     record {
-      run = ends_run g.row.I.Denot ℕ ids g.N.PartialEq.eq kind logs g.met.NID.Eq.laws c.args.ids.0 c.args.ids.1 c.args.ids.2 c.args.members.now.configs c.in-Some.servers.0.0
+      run = ends_run ℕ ℕ ids _ kind logs nat_eq_equiv 1 2 3 c.args.members.now.configs c.in-Some.servers.0.0
           c.in-Some.servers.0.1 c.in-Some.servers.1 c.tell-told.new.one c.tell-told.new.two c.tell-told.new.three _
-          c.requires.exact c.requires.apart g.met.L.LeaderIdentity.made c.requires.one_default c.requires.one_term
+          (record { nodes = equal_numbers; leaders = c.requires.exact })
+          (record { one_two = refl; one_three = refl; two_three = refl }) g.met.L.LeaderIdentity.made c.requires.one_default c.requires.one_term
           all.0 all.1 all.2 (some_of _ c.tell-told.result c.in-Some-told.cut c.in-Some-told.is c.tell-told.ensures.tells) c.knows-one.ensures
           c.knows-two.ensures c.knows-three.ensures;
     }

@@ -1,4 +1,6 @@
-use Rattle.std.specs.Prelude.{ℕ}
+use Rattle.std.specs.Prelude.{ℕ, Some, nat_eq}
+use Rattle.std.specs.Cmp.{nat_eq_equiv}
+use Rattle.std.specs.Ordering.{nat_cmp}
 use Rattle.raft_handlers.specs.Compared.{LeaderMembers}
 use Rattle.raft_progress.specs.progress.Comparisons.{OrdMembers}
 use Rattle.raft_refinement_tests.proofs.StoryLemmas.{of_campaign, ok_of, wins}
@@ -6,11 +8,7 @@ use Rattle.raft_refinement_tests.proofs.story.wins.Goals as goal
 
 pub returns : goal.returns
 returns g c =
-    let ids : OrdMembers _ = record {
-      partial_cmp = g.NID.PartialOrd.partial_cmp;
-      eq = g.NID.PartialEq.eq;
-      cmp = g.NID.Ord.cmp;
-    } in
+    let ids : OrdMembers ℕ = record { partial_cmp = λ x y. Some (nat_cmp x y); eq = nat_eq; cmp = nat_cmp } in
     let logs : OrdMembers _ = record {
       partial_cmp = g.C.PartialOrd.partial_cmp;
       eq = g.C.PartialEq.eq;
@@ -31,13 +29,13 @@ returns g c =
     let made = c.leads-made.ensures in
     let call = ok_of _ c.leads-made.result c.in-Ok-made.leader c.in-Ok-made.is made.call in
     record {
-      run = wins g.row.I.Denot ℕ ids g.N.PartialEq.eq kind logs g.met.NID.Eq.laws c.args.id c.args.voter.now c.args.term c.args.state.now c.campaigns.new.state
+      run = wins ℕ ℕ ids _ kind logs nat_eq_equiv c.args.id c.args.voter.now c.args.term c.args.state.now c.campaigns.new.state
           c.leads-made.new.state c.args.other.now c.answers_candidate-response.new.state c.in-Ok.candidate c.counts.new.candidate
           c.answers_candidate-response.result c.in-Ok-made.leader g.met.C.Eq.laws g.met.L.LeaderIdentity.made c.in-Ok.ensures.call
           counted.call counted.ignored call c.request-request.result c.request-request.ensures
           c.in-Ok.ensures.step c.answers_candidate-response.ensures.step c.answers_candidate-response.ensures.call counted.step
           (ok_of _ c.leads-made.result c.in-Ok-made.leader c.in-Ok-made.is made.step);
-      of_campaign = of_campaign g.row.I.Denot ℕ ids g.N.PartialEq.eq kind logs g.met.NID.Eq.laws c.args.id c.args.voter.now c.args.term c.args.state.now c.campaigns.new.state
+      of_campaign = of_campaign ℕ ℕ ids _ kind logs nat_eq_equiv c.args.id c.args.voter.now c.args.term c.args.state.now c.campaigns.new.state
           c.leads-made.new.state c.args.other.now c.answers_candidate-response.new.state c.in-Ok.candidate c.counts.new.candidate
           c.answers_candidate-response.result c.in-Ok-made.leader g.met.C.Eq.laws g.met.L.LeaderIdentity.made c.in-Ok.ensures.call
           counted.call counted.ignored call;

@@ -1,4 +1,6 @@
-use Rattle.std.specs.Prelude.{ℕ}
+use Rattle.std.specs.Prelude.{ℕ, Some, nat_eq}
+use Rattle.std.specs.Cmp.{nat_eq_equiv}
+use Rattle.std.specs.Ordering.{nat_cmp}
 use Rattle.raft_handlers.specs.Compared.{LeaderMembers}
 use Rattle.raft_progress.specs.progress.Comparisons.{OrdMembers}
 use Rattle.std.proofs.Common.{sym, ◌∙◌}
@@ -7,11 +9,7 @@ use Rattle.raft_refinement_tests.proofs.story.writes.Goals as goal
 
 pub returns : goal.returns
 returns g c =
-    let ids : OrdMembers _ = record {
-      partial_cmp = g.NID.PartialOrd.partial_cmp;
-      eq = g.NID.PartialEq.eq;
-      cmp = g.NID.Ord.cmp;
-    } in
+    let ids : OrdMembers ℕ = record { partial_cmp = λ x y. Some (nat_cmp x y); eq = nat_eq; cmp = nat_cmp } in
     let logs : OrdMembers _ = record {
       partial_cmp = g.C.PartialOrd.partial_cmp;
       eq = g.C.PartialEq.eq;
@@ -29,6 +27,6 @@ returns g c =
       same_as = g.L.LeaderIdentity.same_as;
     } in
     record {
-      run = writes g.row.I.Denot ℕ ids g.N.PartialEq.eq kind logs g.met.NID.Eq.laws c.args.state.now c.proposes_blank.new.state c.args.leader.now _ c.in-Ok._entry c.in-Some._last
+      run = writes ℕ ℕ ids _ kind logs nat_eq_equiv c.args.state.now c.proposes_blank.new.state c.args.leader.now _ c.in-Ok._entry c.in-Some._last
           (sym (c.copied.ensures ∙ c.last_log_id.ensures) ∙ c.in-Some.is) c.in-Ok.ensures.step c.in-Ok.ensures.call;
     }
