@@ -389,7 +389,7 @@ module _ {K N L C : Type 0} (eq : K → K → Bool) (logs : OrdMembers C) (old n
   AnswersMatch x = (match_of (entry_of eq new x) ≡ match_of (entry_of eq old x))
       ⊎ ((from ≡ x) × (response.outcome ≡ Matches (match_of (entry_of eq new x))))
 
-  pub response_matches : ((x y : K) → eq x y ≡ true → x ≡ y) → (r : Result (Unit {0}) HandlerError)
+  pub response_matches : ((x y : K) → eq x y ≡ true → x ≡ y) → (r : Result (Unit {0}) ResponseError)
       → TakesResponse eq logs from response old new r → (x : K) → AnswersMatch x
   response_matches nodes r takes x = by (taken_or_same r takes)
     where

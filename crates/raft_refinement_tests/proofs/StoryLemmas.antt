@@ -51,7 +51,7 @@ use Rattle.raft_handlers.specs.Proposals.{AppendsOwn, log_with_own, next_own_id}
 use Rattle.raft_handlers.specs.Responses.{SendsNext, TakesResponse}
 use Rattle.raft_handlers.specs.Start.{CanDecide, Starts, has_config}
 use Rattle.raft_handlers.specs.Vote.{Grants}
-use Rattle.raft_handlers.specs.declared.error.HandlerError.{HandlerError}
+use Rattle.raft_handlers.specs.declared.error.ResponseError.{ResponseError}
 use Rattle.raft_handlers.specs.declared.message.AppendEntries.{AppendEntries}
 use Rattle.raft_handlers.specs.declared.message.Outcome.{Outcome}
 use Rattle.raft_handlers.specs.declared.message.Outcome.TheVariants.{Matches}
@@ -639,7 +639,7 @@ module _ {K N L C : Type 0} (I D : Type 0) (ids : OrdMembers K) (node_eq : N →
   -- an answer, which the leader takes
   pub exchanges : (r : K) (old new : RaftStateIn K N I L C) (request : AppendEntries L C K N D) (response : Response L C)
       (before after : Leadership K N C) (taken : Unit {0}) → AppendIsStep D ids node_eq kind logs request old response.outcome new
-      → (let result : Result (Unit {0}) HandlerError = Ok taken in
+      → (let result : Result (Unit {0}) ResponseError = Ok taken in
       TakesResponse ids.eq logs r response before after result)
       → Exchanges D ids node_eq kind logs r old new request response.outcome before after
   exchanges r old new request response before after taken step call c s a w has leads message is_own =
