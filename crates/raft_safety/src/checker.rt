@@ -14,6 +14,7 @@ mod learn;
 mod logs;
 mod node;
 mod places;
+mod reads;
 mod server;
 mod terms;
 mod violation;

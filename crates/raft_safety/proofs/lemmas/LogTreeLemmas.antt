@@ -4,7 +4,7 @@ use Rattle.std.specs.List.{slice_get}
 use Rattle.std.specs.Option.{option_or}
 use Rattle.std.proofs.Common.{refl, sym, ap, ◌∙◌, subst, inl, inr, arith}
 use Rattle.std.proofs.lemmas.Bool.{cases_lt}
-use Rattle.std.proofs.lemmas.Option.{slice_get_cases}
+use Rattle.std.proofs.lemmas.Option.{same_Some, slice_get_cases}
 use Rattle.std.proofs.lemmas.List.{
   take-append-le,
   length_push,
@@ -12,6 +12,7 @@ use Rattle.std.proofs.lemmas.List.{
   get_or_append_left,
   get_or_push,
   get_or_past,
+  take_more,
 }
 use Rattle.raft_safety.specs.Log.{Entry}
 use Rattle.raft_safety.specs.Inner.Logs.{AllLogs, log_at, config_at, and_log, no_logs, last_entry, HasParent, IsTree}
@@ -229,6 +230,15 @@ module _ {T D : Type 0} where
   pub last_push : (log : List (Entry T D)) (e : Entry T D) → last_entry (log ++ e ∷ []) ≡ Some e
   last_push [] e = refl
   last_push (x ∷ log) e = ap (λ o. option_or o (Some x)) (last_push log e)
+
+  -- the first entries of a log, and one more: the last of these
+  pub take_last : (log : List (Entry T D)) (i : ℕ) (e : Entry T D) → i < length log
+      → Some e ≡ last_entry (take (i + 1) log) → take (i + 1) log ≡ take i log ++ e ∷ []
+  take_last log i e h is =
+      let more : take (i + 1) log ≡ take i log ++ get_or log i e ∷ [] = take_more log i e h in
+      let same : e ≡ get_or log i e =
+      same_Some e (get_or log i e) (is ∙ ap last_entry more ∙ last_push (take i log) (get_or log i e)) in
+      more ∙ ap (λ x. take i log ++ x ∷ []) (sym same)
 
   -- ---- parents and jumps
 

@@ -3,9 +3,9 @@ ghost use Rattle.std.specs.Prelude.{◌≡◌};
 ghost use Rattle.raft_safety.specs.Inner.CheckerState.{same_entry_by};
 
 use crate::entry::Entry;
+use std::alloc::AllocError;
 
 /// The last entry of a log, and the logs with which it begins.
-#[derive(Clone, Copy)]
 pub struct Node<T, D> {
     /// The log without its last entry.
     pub parent: usize,
@@ -18,6 +18,15 @@ pub struct Node<T, D> {
     /// The last entry.
     pub entry: Entry<T, D>,
 }
+
+// By hand, because the proof of a derived `clone` is several times as long.
+impl<T: Copy, D: Copy> Clone for Node<T, D> {
+    fn clone(&self) -> Result<Self, AllocError> {
+        Ok(*self)
+    }
+}
+
+impl<T: Copy, D: Copy> Copy for Node<T, D> {}
 
 /// Whether two entries are of one term and have one content.
 pub fn same_entry<T: Copy + Eq, D: Copy + Eq>(a: &Entry<T, D>, b: &Entry<T, D>) -> bool
