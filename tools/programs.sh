@@ -4,8 +4,8 @@
 # Usage: tools/programs.sh [statuses | seeds]
 #
 # `statuses` compares the exit status, the output and the standard error of `raft-state`, also for odd
-# input and with words on its command line, and of the options of the simulated cluster. `seeds` runs the
-# cluster: 2,000 seeds and long runs, each of which must be safe and converge and never be long without a
+# input and with words on its command line, of the options of the simulated cluster, and of `raft_trace`.
+# `seeds` runs the cluster: 2,000 seeds and long runs, each of which must be safe and converge and never be long without a
 # commit, and 300 seeds with each planted fault, which some must show. It also runs 50 seeds over openraft's
 # default leader ids, by a copy of the sources that is not proved. Without a word the tool does both.
 set -u -o pipefail
@@ -44,6 +44,9 @@ usage_of() { run "$@" | head -n 1; }
 cluster() { timeout 120 crates/cluster/out/cluster "$@"; }
 silent_cluster() { cluster "$@" > /dev/null; }
 begin() { printf 'init 0 1 -\nupdate 1 5\n'; }
+trace() { timeout 60 crates/raft_trace/out/raft_trace "$@"; }
+trace_into_full_device() { trace "$@" > /dev/full; }
+start() { printf '{"event":"started","voters":[[1,2,3]]}\n'; }
 # Ten megabytes of a piece, over and over.
 ten_megabytes() { yes "$1" | tr -d '\n' | head -c 10000000; }
 # Forty bytes of a long word, as a reason shows them: a piece, over and over. The piece `\x00` is one byte.
@@ -94,6 +97,36 @@ statuses() {
     done
     compare "--help into a full device" 1 "" "fault" run_into_full_device --help
     options
+    records
+}
+
+# The answers of `raft_trace`, also to odd input.
+records() {
+    local safe=" terms with a leader, 0 committed, 0 votes sent again"
+    local no_event="line 2: it is no JSON with a text \`event\`"
+    compare "a safe run" 0 "$(cat crates/raft_trace/stdout)" "" trace < crates/raft_trace/stdin
+    compare "no record" 2 "line 1: it has to be \`started\`, with lists of numbers \`voters\`, and a number \`first\` or none" \
+        "" trace < /dev/null
+    compare "a start alone" 0 "safe: 0 events, 3 voters, 0$safe" "" trace < <(start)
+    compare "no voters" 1 "line 1: the cluster starts: quorums of the initial config are not known to intersect" \
+        "" trace < <(printf '{"event":"started","voters":[]}')
+    compare "brackets" 2 "$no_event" "" trace < <(start; ten_megabytes '[')
+    compare "zero bytes in a record" 2 "$no_event" "" trace < <(start; head -c 10000000 /dev/zero)
+    compare "no UTF-8" 2 "$no_event" "" trace < <(start; printf '\xff\n')
+    compare "the end inside an event" 2 "$no_event" "" trace < <(start; printf '{"event":"camp')
+    compare "a long field" 0 "safe: 1 events, 3 voters, 0$safe" "" trace \
+        < <(start; printf '{"x":"'; ten_megabytes a; printf '","event":"campaigned","server":1,"term":1}\n')
+    compare "carriage returns" 0 "safe: 1 events, 3 voters, 0$safe" "" trace \
+        < <(start; printf '{"event":"campaigned","server":1,"term":1}\r\n')
+    compare "empty lines in a record" 0 "safe: 0 events, 3 voters, 0$safe" "" trace \
+        < <(start; yes '' | head -n 100000)
+    compare "an index of 2^63" 1 "line 2: server 1 restarts with index 9223372036854775808: the server does not have so many entries" \
+        "" trace < <(start; printf '{"event":"restarted","server":1,"index":9223372036854775808}')
+    compare "the greatest index" 2 "line 2: \`restarted\` needs the numbers \`server\` and \`index\`" "" trace \
+        < <(start; printf '{"event":"restarted","server":1,"index":18446744073709551615}')
+    compare "a record that cannot be read" 3 "" "" trace < /
+    compare "an answer that cannot be written" 3 "" "" trace_into_full_device < <(start)
+    compare "a word for raft_trace" 2 "" "$(trace --help)" trace record.jsonl < <(start)
 }
 
 # The options of the cluster: refused ones, and the help.

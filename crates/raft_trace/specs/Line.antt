@@ -1,6 +1,8 @@
 -- What a line says of an event.
-use Rattle.std.specs.Prelude.{◌≡◌, ℕ, Some, codes}
+use Rattle.std.specs.Prelude.{◌≡◌, ◌⊎◌, ℕ, List, Some, None, codes, length}
 use Rattle.serde_json.specs.Data.{Data}
+use Rattle.serde_json.specs.Find.{get}
+use Rattle.raft_safety.specs.Log.{Entry}
 use Rattle.raft_safety.specs.Trace.{
   TraceEvent,
   Campaigned,
@@ -14,8 +16,15 @@ use Rattle.raft_safety.specs.Trace.{
 }
 use Rattle.raft_trace.specs.Fields.{HasEntries, IsLen, IsNamed, number_in}
 
+-- a line says which entries a server takes: it keeps those up to the index `prev`, and these come then. A
+-- line without entries is of a snapshot, which has all entries up to its index
+abbrev pub SaysEntries : ℕ → Data → ℕ → List (Entry ℕ ℕ) → Type 0
+SaysEntries first d n sent =
+    (IsLen (codes "prev") first n d × HasEntries d sent)
+    ⊎ ((get (codes "entries") d ≡ None) × (n ≡ 0) × IsLen (codes "index") first (length sent) d)
+
 -- a line says an event, where the first entry has this index. It does not say by which config a leader
--- counts, nor which leader has committed what a server applies
+-- counts, nor which leader has committed what a server applies, nor what the entries of a snapshot are
 abbrev pub Says : ℕ → Data → TraceEvent ℕ ℕ ℕ → Type 0
 Says first d (Campaigned s t) =
     IsNamed (codes "campaigned") d
@@ -31,8 +40,7 @@ Says first d (Appended s t c n sent) =
     × (number_in (codes "server") d ≡ Some s)
     × (number_in (codes "term") d ≡ Some t)
     × (number_in (codes "leader") d ≡ Some c)
-    × IsLen (codes "prev") first n d
-    × HasEntries d sent
+    × SaysEntries first d n sent
 Says first d (Acked s t c n) =
     IsNamed (codes "acked") d
     × (number_in (codes "server") d ≡ Some s)
@@ -59,14 +67,14 @@ Says first d (Applied s t c n) =
     × (number_in (codes "server") d ≡ Some s)
     × IsLen (codes "index") first n d
 
--- what a line says of a server that takes entries, but for the entries
-abbrev pub IsTaken : ℕ → Data → ℕ × ℕ × ℕ × ℕ → Type 0
-IsTaken first d t =
+-- what a line says of a server that takes entries, but for the entries: up to the index of this field
+abbrev pub IsTaken : List ℕ → ℕ → Data → ℕ × ℕ × ℕ × ℕ → Type 0
+IsTaken name first d t =
     IsNamed (codes "appended") d
     × (number_in (codes "server") d ≡ Some t.0)
     × (number_in (codes "term") d ≡ Some t.1)
     × (number_in (codes "leader") d ≡ Some t.2)
-    × IsLen (codes "prev") first t.3 d
+    × IsLen name first t.3 d
 
 -- a vote of a server for another one
 abbrev pub IsVote : TraceEvent ℕ ℕ ℕ → Type 0

@@ -1,6 +1,7 @@
 //! The events of lines.
-ghost use Rattle.std.specs.Prelude.{ℕ, IfOk, IfSome};
+ghost use Rattle.std.specs.Prelude.{◌≡◌, ℕ, IfOk, IfSome, IsSome, None, codes};
 ghost use Rattle.raft_safety.specs.Checker.{event_of as trace_event};
+ghost use Rattle.serde_json.specs.Find.{get};
 ghost use Rattle.serde_json.specs.View.{view};
 ghost use Rattle.raft_trace.specs.Line.{IsTaken, Says};
 
@@ -69,7 +70,7 @@ fn granted(value: &Value) -> Option<Act>
 fn appended(alloc: Global, value: &Value, first: u64) -> Result<Option<Act>, AllocError>
     ensures { IfOk result (λ o. IfSome o (λ e. Says first (view value.now) (trace_event e))) }
 {
-    let Some((server, term, leader, keep)) = taken(value, first) else {
+    let Some((server, term, leader, keep)) = taken(value, "prev", first) else {
         return Ok(None);
     };
     match entries(alloc, value)? {
@@ -84,9 +85,22 @@ fn appended(alloc: Global, value: &Value, first: u64) -> Result<Option<Act>, All
     }
 }
 
-/// Returns the server that takes entries, the term, its leader, and how many entries are kept.
-fn taken(value: &Value, first: u64) -> Option<(u64, u64, u64, usize)>
-    ensures { IfSome result (λ t. IsTaken first (view value.now) t) }
+/// Returns the server that installs a snapshot, the term, its leader, and how many entries the
+/// snapshot has, if the line is of one: it has no field `entries`.
+pub fn installed(value: &Value, first: u64) -> Option<(u64, u64, u64, usize)>
+    ensures taken { IfSome result (λ t. IsTaken (codes "index") first (view value.now) t) }
+    ensures none { IsSome result → get (codes "entries") (view value.now) ≡ None }
+{
+    if value.get("entries").is_some() {
+        return None;
+    }
+    taken(value, "index", first)
+}
+
+/// Returns the server that takes entries, the term, its leader, and the number of entries up to the
+/// index of a field.
+fn taken(value: &Value, name: &str, first: u64) -> Option<(u64, u64, u64, usize)>
+    ensures { IfSome result (λ t. IsTaken name.now first (view value.now) t) }
 {
     if !is_named(value, "appended") {
         return None;
@@ -95,7 +109,7 @@ fn taken(value: &Value, first: u64) -> Option<(u64, u64, u64, usize)>
         number(value, "server")?,
         number(value, "term")?,
         number(value, "leader")?,
-        len(value, "prev", first)?,
+        len(value, name, first)?,
     ))
 }
 

@@ -1,19 +1,23 @@
 //! Judges the lines of a recorded run.
 ghost use Rattle.std.specs.Prelude.{◌≡◌, IfOk, IfSome, IsTrue, OnOk};
 ghost use Rattle.raft_safety.specs.Checker.{event_of as trace_event};
+ghost use Rattle.serde_json.specs.View.{view};
+ghost use Rattle.raft_trace.specs.Line.{Says};
 ghost use Rattle.raft_trace.specs.Numbers.{number_tests};
 ghost use Rattle.raft_trace.specs.Run.{IsSafeRun, IsStarted, Takes, TakesAll, TakesEvent};
 
 use crate::counts::Counts;
-use crate::event::{Act, event_of};
+use crate::event::{Act, event_of, installed};
 use crate::fault::Fault;
 use crate::field::{configs, first_index, is_named, value_of};
 use crate::input::{open, read_line};
 use crate::text::{push_fault, push_safe};
 use raft_safety::checker::{Checker, Violation};
+use raft_safety::event::Event;
 use raft_safety::laws::traces_are_executions;
 use raft_safety::memberships::{Memberships, memberships_are_exact};
 use raft_safety::rule::Rule;
+use serde_json::Value;
 use std::alloc::Global;
 use std::io::{self, BufRead, Read};
 
@@ -126,10 +130,28 @@ impl Judge {
         let Some(value) = value_of(alloc, line)? else {
             return Err(Fault::Malformed);
         };
-        let Some(event) = event_of(alloc, &value, self.first, self.counts.committed_by)? else {
-            return Err(Fault::Malformed);
-        };
+        let event = self.event(alloc, &value)?;
         self.take_event(&event)
+    }
+
+    /// Returns the event that a line says. The entries of a snapshot are those of the leader.
+    fn event(&self, alloc: Global, value: &Value) -> Result<Act, Fault>
+        ensures { IfOk result (λ e. Says self.now.first (view value.now) (trace_event e)) }
+    {
+        let Some((server, term, leader, len)) = installed(value, self.first) else {
+            let event = event_of(alloc, value, self.first, self.counts.committed_by)?;
+            return event.ok_or(Fault::Malformed);
+        };
+        match self.checker.leader_entries(alloc, term, leader, len)? {
+            Some(entries) => Ok(Event::Appended {
+                server,
+                term,
+                leader,
+                keep: 0,
+                entries,
+            }),
+            None => Err(Fault::from(Violation::Rule(Rule::NotWritten))),
+        }
     }
 
     /// Takes the next event.

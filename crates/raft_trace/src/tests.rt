@@ -17,7 +17,7 @@ const LED: &str = r#"{"event":"started","voters":[[1,2,3]],"first":2}
 "#;
 
 /// Lines after those of `LED`, and the status and the answer.
-const ROWS: [(&str, u8, &str); 14] = [
+const ROWS: [(&str, u8, &str); 17] = [
     (
         "",
         0,
@@ -76,6 +76,25 @@ const ROWS: [(&str, u8, &str); 14] = [
         r#"{"event":"wrote","leader":1,"term":1,"index":3,"content":8,"voters":[[1,2]]}"#,
         2,
         "line 9: `wrote` needs the numbers `leader`, `term` and `content`, and no `voters`\n",
+    ),
+    (
+        r#"{"event":"appended","server":3,"term":2,"leader":3,"index":1}"#,
+        1,
+        "line 9: server 3 installs a snapshot up to index 1 of 3 in term 2: the leader is not \
+            elected in the term\n",
+    ),
+    (
+        r#"{"event":"appended","server":2,"term":1,"leader":1,"index":2}
+{"event":"acked","server":2,"term":1,"leader":1,"index":2}
+{"event":"committed","leader":1,"term":1,"index":2}"#,
+        0,
+        "safe: 10 events, 3 voters, 1 terms with a leader, 1 committed, 0 votes sent again\n",
+    ),
+    (
+        r#"{"event":"appended","server":2,"term":1,"leader":1,"index":3}"#,
+        1,
+        "line 9: server 2 installs a snapshot up to index 3 of 1 in term 1: the leader has not \
+            written so many entries\n",
     ),
     (
         r#"{"event":"elected"}"#,

@@ -62,7 +62,7 @@ fn reason(number: u64, value: &Value) -> &'static str {
         "campaigned" => "`campaigned` needs the numbers `server` and `term`",
         "granted" => "`granted` needs the numbers `server`, `term` and `candidate`",
         "appended" => {
-            "`appended` needs the numbers `server`, `term`, `leader` and `prev`, and the pairs `entries`"
+            "`appended` needs the numbers `server`, `term` and `leader`, and `prev` and the pairs `entries`, or `index`"
         }
         "acked" => "`acked` needs the numbers `server`, `term`, `leader` and `index`",
         "restarted" => "`restarted` needs the numbers `server` and `index`",
@@ -90,6 +90,10 @@ fn push_event(answer: &mut String, value: &Value) -> Result<(), AllocError> {
             answer,
             "server {server} votes in term {term} for {}",
             field(value, "candidate")
+        )?,
+        "appended" if value.get("entries").is_none() => write!(
+            answer,
+            "server {server} installs a snapshot up to index {index} of {leader} in term {term}"
         )?,
         "appended" => write!(
             answer,

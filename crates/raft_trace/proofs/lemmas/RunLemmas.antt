@@ -132,24 +132,24 @@ module _ (tests : Memberships ℕ ℕ → Tests ℕ ℕ ℕ (Option ℕ)) where
       → TracesAreExecutions ℕ ℕ ℕ (Option ℕ) → (text next : Option (List ℕ)) (line : List ℕ) (is_last : Bool)
       (judge : Judge) → is_last ≡ true → TakesLine text line is_last next → IsStarted tests line judge
       → IsSafeRun tests text
-  safe_alone ranks law None next line is_last judge last reads started = tt
-  safe_alone ranks law (Some text) None line is_last judge last reads started = absurd reads
-  safe_alone ranks law (Some text) (Some next) line is_last judge last reads started =
+  safe_alone ranks law None next line is_last judge last reads start = tt
+  safe_alone ranks law (Some text) None line is_last judge last reads start = absurd reads
+  safe_alone ranks law (Some text) (Some next) line is_last judge last reads start =
       let cut : lines text ≡ line ∷ [] =
       (subst (λ (b : Bool). TakesLine (Some text) line b (Some next)) last reads).0 in
-      is_safe ranks law text line [] judge judge cut started.0 (refl, refl) started.1
+      is_safe ranks law text line [] judge judge cut start.0 (refl, refl) start.1
 
   -- all lines after the first one are taken
   pub safe_all : ((m : Memberships ℕ ℕ) (t u : ℕ) → (tests m).rank t ≡ (tests m).rank u → t ≡ u)
       → TracesAreExecutions ℕ ℕ ℕ (Option ℕ) → (text next : Option (List ℕ)) (line : List ℕ) (is_last : Bool)
       (old new : Judge) → is_last ≡ false → TakesLine text line is_last next → IsStarted tests line old
       → TakesAll tests next old new → IsSafeRun tests text
-  safe_all ranks law None next line is_last old new not_last reads started takes = tt
-  safe_all ranks law (Some text) None line is_last old new not_last reads started takes = absurd reads
-  safe_all ranks law (Some text) (Some next) line is_last old new not_last reads started takes =
+  safe_all ranks law None next line is_last old new not_last reads start takes = tt
+  safe_all ranks law (Some text) None line is_last old new not_last reads start takes = absurd reads
+  safe_all ranks law (Some text) (Some next) line is_last old new not_last reads start takes =
       let cut : lines text ≡ line ∷ lines next =
       subst (λ (b : Bool). TakesLine (Some text) line b (Some next)) not_last reads in
-      is_safe ranks law text line (lines next) old new cut started.0 takes.0 (takes.1 [] started.1)
+      is_safe ranks law text line (lines next) old new cut start.0 takes.0 (takes.1 [] start.1)
 
   -- a run is safe if it is so as it is read
   pub kept_safe : (text read_text : Option (List ℕ)) → Keeps text read_text → IsSafeRun tests read_text

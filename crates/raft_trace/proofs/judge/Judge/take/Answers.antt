@@ -8,5 +8,5 @@ use Rattle.raft_trace.proofs.judge.Judge.take.Goals as goal
 pub returns : goal.returns
 returns c = on_ok_weaker c.take_event.result
     (takes_event number_tests c.args.line.now c.args.self.now c.take_event.new.self (view c.in-Some.value)
-    (trace_event c.in-Some-2.event) (rw c.in-Some.is at c.in_ok-value.ensures)
-    (rw c.in-Some-2.is at c.in_ok-event.ensures)) c.take_event.ensures
+    (trace_event c.in_ok-event.event) (rw c.in-Some.is at c.in_ok-value.ensures) c.in_ok-event.ensures)
+    c.take_event.ensures
