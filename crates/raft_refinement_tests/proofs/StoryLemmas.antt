@@ -416,8 +416,10 @@ module _ {K N L C : Type 0} (I D : Type 0) (ids : OrdMembers K) (node_eq : N →
 
       goes_asked : GoesOn D ids node_eq kind logs c s r w asked mid old_other
       goes_asked =
-          first_goes c s r w old old_other has mid (Some candidate) (VoteAsked (record { vote = candidate.vote; last_log_id = candidate.last_log_id }) ∷ w.network) (λ m among. inr among)
-          (campaign c w asked (comes s old mid (Some candidate) (VoteAsked (record { vote = candidate.vote; last_log_id = candidate.last_log_id }) ∷ w.network) w has.first)
+          first_goes c s r w old old_other has mid (Some candidate)
+          (VoteAsked (record { vote = candidate.vote; last_log_id = candidate.last_log_id }) ∷ w.network) (λ m among. inr among)
+          (campaign c w asked (comes s old mid (Some candidate)
+          (VoteAsked (record { vote = candidate.vote; last_log_id = candidate.last_log_id }) ∷ w.network) w has.first)
           (subst (λ (l : L). IsAmong l c.leaders) leader_now in_use) fixed)
 
       not_own : kind.voted candidate.vote.leader_id ≡ Some r → ⊥
@@ -621,7 +623,8 @@ module _ {K N L C : Type 0} (I D : Type 0) (ids : OrdMembers K) (node_eq : N →
       goes =
           first_goes c s r w a b has a (w.campaigns s) (EntriesSent request ∷ w.network) (λ m among. inr among)
           (step c s w later request (comes s a a (w.campaigns s) (EntriesSent request ∷ w.network) w has.first)
-          (record { leads = leads.leads; node = leads.node; in_use = leads.in_use }) is_own (carries c s w later a has.first sending request.prev prev)
+          (record { leads = leads.leads; node = leads.node; in_use = leads.in_use }) is_own
+          (carries c s w later a has.first sending request.prev prev)
           (logged_among (full_log a.log_ids) request.entries.items logged) committed)
 
       leading : LeadsIn D ids node_eq kind logs c s later after

@@ -38,7 +38,8 @@ use Rattle.raft_state.specs.declared.entry.EntryOf.{EntryOf}
 use Rattle.raft_state.specs.declared.raft_state.RaftStateIn.{RaftStateIn}
 
 -- tests that hold only if others do have the same refusals, and more
-module _ (t u : TakeTests) (keeps : t.keeps ≡ false → u.keeps ≡ false) (order : t.order ≡ false → u.order ≡ false) (members : t.members ≡ false → u.members ≡ false)
+module _ (t u : TakeTests) (keeps : t.keeps ≡ false → u.keeps ≡ false) (order : t.order ≡ false → u.order ≡ false)
+    (members : t.members ≡ false → u.members ≡ false)
     (has : t.has ≡ false → u.has ≡ false) where
   pub refused_unless_more : (e : AppendError) → RefusedUnless t e → RefusedUnless u e
   refused_unless_more OutOfMemory r = r

@@ -93,7 +93,8 @@ known_installs id_eq same same_leader ord meta s not = record {
 }
 
 -- a call that is refused is refused for a reason that the caller gives
-pub refused_after : (A : Type 0) {B : Type 0} (o : Option SnapshotError) (e f : SnapshotError) (r : Result B SnapshotError) → r ≡ Err f → f ≡ e
+pub refused_after : (A : Type 0) {B : Type 0} (o : Option SnapshotError) (e f : SnapshotError) (r : Result B SnapshotError) → r ≡ Err f
+    → f ≡ e
     → RefusedFor o (let inner : Result A SnapshotError = Err e in inner) → RefusedFor o r
 refused_after A None e f r is same h = rw (is, same) h
 refused_after A (Some d) e f r is same h = let reason : e ≡ d = cc in rw (is, same, reason) refl

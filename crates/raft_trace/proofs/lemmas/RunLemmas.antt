@@ -9,7 +9,19 @@ use Rattle.raft_safety.specs.Checker.{Keeps as KeepsEvents, configs_of, kept_by}
 use Rattle.raft_safety.specs.declared.memberships.Memberships.{Memberships}
 use Rattle.raft_trace.specs.Input.{TakesLine, lines}
 use Rattle.raft_trace.specs.Line.{Says}
-use Rattle.raft_trace.specs.Run.{GoesOn, HasTaken, IsSafeRun, IsStarted, IsTraceOf, SafeRun, SaysStart, Takes, TakesAll, TakesEvent, and_lines}
+use Rattle.raft_trace.specs.Run.{
+  GoesOn,
+  HasTaken,
+  IsSafeRun,
+  IsStarted,
+  IsTraceOf,
+  SafeRun,
+  SaysStart,
+  Takes,
+  TakesAll,
+  TakesEvent,
+  and_lines,
+}
 use Rattle.raft_trace.specs.declared.judge.Judge.{Judge}
 
 module _ (tests : Memberships ℕ ℕ → Tests ℕ ℕ ℕ (Option ℕ)) where

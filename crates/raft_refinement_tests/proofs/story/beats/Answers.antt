@@ -36,7 +36,8 @@ returns g c =
       committed = c.args.state.now.committed;
     } in
     record {
-      run = sends ℕ ℕ ids _ kind logs nat_eq_equiv c.args.state.now c.args.to.now 64 c.args.leader.now c.sends.new.leader c.in-Some.sending request
+      run = sends ℕ ℕ ids _ kind logs nat_eq_equiv c.args.state.now c.args.to.now 64 c.args.leader.now c.sends.new.leader
+          c.in-Some.sending request
           c.in-Some.ensures.step c.in-Some.ensures.call (ap (λ v. v.leader_id) c.vote_ref.ensures)
           (carries_none (full_log c.args.state.now.log_ids) c.in-Some.sending c.in-Some-copied.last.index c.get_log_id.result c.in-None.is
           c.get_log_id.ensures)

@@ -27,7 +27,8 @@ returns g c =
     } in
     let flushed = c.in-Ok.ensures in
     record {
-      run = commits ℕ ℕ ids _ kind logs nat_eq_equiv c.args.state.now c.commits.new.state c.args.leader.now c.handle_flushed.new.self c.copied-upto.result
+      run = commits ℕ ℕ ids _ kind logs nat_eq_equiv c.args.state.now c.commits.new.state c.args.leader.now c.handle_flushed.new.self
+          c.copied-upto.result
           c.in-Ok-commits.more flushed.logged flushed.counted c.handle_flushed.ensures.stale c.handle_flushed.ensures.not_counted
           c.handle_flushed.ensures.members c.handle_flushed.ensures.node c.in-Ok-commits.ensures.step c.in-Ok-commits.ensures.call;
     }

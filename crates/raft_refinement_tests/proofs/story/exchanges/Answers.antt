@@ -26,6 +26,7 @@ returns g c =
       same_as = g.L.LeaderIdentity.same_as;
     } in
     record {
-      run = exchanges ℕ ℕ ids _ kind logs nat_eq_equiv c.args.to.now c.args.follower.now c.answers_leader.new.state c.args.request.now c.in-Ok.made.0
+      run = exchanges ℕ ℕ ids _ kind logs nat_eq_equiv c.args.to.now c.args.follower.now c.answers_leader.new.state c.args.request.now
+          c.in-Ok.made.0
           c.args.leader.now c.handle_response.new.self tt c.in-Ok.ensures.step c.in-Ok-handle_response.ensures.takes;
     }

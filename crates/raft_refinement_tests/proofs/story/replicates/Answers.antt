@@ -28,7 +28,8 @@ returns g c =
     record {
       run = if_some c.commits.result c.commits.ensures.run
           (λ more commit.
-          replicates ℕ ℕ ids _ kind logs nat_eq_equiv c.args.to.now c.args.state.now c.writes.new.state c.commits.new.state c.args.follower.now
+          replicates ℕ ℕ ids _ kind logs nat_eq_equiv c.args.to.now c.args.state.now c.writes.new.state c.commits.new.state
+          c.args.follower.now
           c.exchanges.new.follower c.args.leader.now c.sends.new.leader c.exchanges.new.leader c.commits.new.leader
           c.in-Some-sends.request c.in-Some-exchanges._outcome c.in-Some.ensures.run c.in-Some-sends.ensures.run
           c.in-Some-sends.ensures.own c.in-Some-exchanges.ensures.run commit);

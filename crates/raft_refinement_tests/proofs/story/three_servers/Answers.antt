@@ -33,7 +33,9 @@ returns g c =
       run = ends_run ℕ ℕ ids _ kind logs nat_eq_equiv 1 2 3 c.args.members.now.configs c.in-Some.servers.0.0
           c.in-Some.servers.0.1 c.in-Some.servers.1 c.tell-told.new.one c.tell-told.new.two c.tell-told.new.three _
           (record { nodes = equal_numbers; leaders = c.requires.exact })
-          (record { one_two = refl; one_three = refl; two_three = refl }) g.met.L.LeaderIdentity.made c.requires.one_default c.requires.one_term
-          all.0 all.1 all.2 (some_of _ c.tell-told.result c.in-Some-told.cut c.in-Some-told.is c.tell-told.ensures.tells) c.knows-one.ensures
+          (record { one_two = refl; one_three = refl; two_three = refl }) g.met.L.LeaderIdentity.made c.requires.one_default
+          c.requires.one_term
+          all.0 all.1 all.2 (some_of _ c.tell-told.result c.in-Some-told.cut c.in-Some-told.is c.tell-told.ensures.tells)
+          c.knows-one.ensures
           c.knows-two.ensures c.knows-three.ensures;
     }

@@ -35,7 +35,8 @@ returns g c =
           counted.call counted.ignored call c.request-request.result c.request-request.ensures
           c.in-Ok.ensures.step c.answers_candidate-response.ensures.step c.answers_candidate-response.ensures.call counted.step
           (ok_of _ c.leads-made.result c.in-Ok-made.leader c.in-Ok-made.is made.step);
-      of_campaign = of_campaign ℕ ℕ ids _ kind logs nat_eq_equiv c.args.id c.args.voter.now c.args.term c.args.state.now c.campaigns.new.state
+      of_campaign = of_campaign ℕ ℕ ids _ kind logs nat_eq_equiv c.args.id c.args.voter.now c.args.term c.args.state.now
+          c.campaigns.new.state
           c.leads-made.new.state c.args.other.now c.answers_candidate-response.new.state c.in-Ok.candidate c.counts.new.candidate
           c.answers_candidate-response.result c.in-Ok-made.leader g.met.C.Eq.laws g.met.L.LeaderIdentity.made c.in-Ok.ensures.call
           counted.call counted.ignored call;

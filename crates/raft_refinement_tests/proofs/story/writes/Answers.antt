@@ -27,6 +27,7 @@ returns g c =
       same_as = g.L.LeaderIdentity.same_as;
     } in
     record {
-      run = writes ℕ ℕ ids _ kind logs nat_eq_equiv c.args.state.now c.proposes_blank.new.state c.args.leader.now _ c.in-Ok._entry c.in-Some._last
+      run = writes ℕ ℕ ids _ kind logs nat_eq_equiv c.args.state.now c.proposes_blank.new.state c.args.leader.now _ c.in-Ok._entry
+          c.in-Some._last
           (sym (c.copied.ensures ∙ c.last_log_id.ensures) ∙ c.in-Some.is) c.in-Ok.ensures.step c.in-Ok.ensures.call;
     }

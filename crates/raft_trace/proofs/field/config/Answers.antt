@@ -11,7 +11,8 @@ loop-item-init c = say_none IsNumber c.deref-item-items.result.now c.new-voters.
 pub loop-item-preserved : goal.loop-item-preserved
 loop-item-preserved c =
     say_more IsNumber c.deref-item-items.result.now c.loop-item.item-index c.loop-item.voters.items c.push.new.self.items
-    c.item-item.result c.in-Some-as_u64.voter (omega arith) c.item-item.is (sym c.in-Some-as_u64.ensures) c.in_ok-push.ensures.items c.loop-item.invariant
+    c.item-item.result c.in-Some-as_u64.voter (omega arith) c.item-item.is (sym c.in-Some-as_u64.ensures) c.in_ok-push.ensures.items
+    c.loop-item.invariant
 
 pub returns : goal.returns
 returns c = (

@@ -11,7 +11,8 @@ loop-item-init c = say_none IsConfig c.deref-item-items.result.now c.new-configs
 pub loop-item-preserved : goal.loop-item-preserved
 loop-item-preserved c =
     say_more IsConfig c.deref-item-items.result.now c.loop-item.item-index c.loop-item.configs.items c.push.new.self.items
-    c.item-item.result c.in-Some-2.config (omega arith) c.item-item.is (rw c.in-Some-2.is at c.in_ok-config.ensures) c.in_ok-push.ensures.items c.loop-item.invariant
+    c.item-item.result c.in-Some-2.config (omega arith) c.item-item.is (rw c.in-Some-2.is at c.in_ok-config.ensures)
+    c.in_ok-push.ensures.items c.loop-item.invariant
 
 pub returns : goal.returns
 returns c = (

@@ -11,7 +11,8 @@ loop-item-init c = say_none IsEntry c.deref-item-items.result.now c.new-entries.
 pub loop-item-preserved : goal.loop-item-preserved
 loop-item-preserved c =
     say_more IsEntry c.deref-item-items.result.now c.loop-item.item-index c.loop-item.entries.items c.push.new.self.items
-    c.item-item.result c.in-Some-entry.entry (omega arith) c.item-item.is (c.in-Some-entry.ensures) c.in_ok-push.ensures.items c.loop-item.invariant
+    c.item-item.result c.in-Some-entry.entry (omega arith) c.item-item.is (c.in-Some-entry.ensures) c.in_ok-push.ensures.items
+    c.loop-item.invariant
 
 pub returns : goal.returns
 returns c = (

@@ -12,7 +12,13 @@ returns c =
     let d = view c.in-Some.value in
     let members : Memberships ℕ ℕ = record { initial = c.in-Some-2.initial; held = c.new-held.result } in
     let voters : HasConfigs d c.in-Some-2.initial.items = rw c.in-Some-2.is at c.in_ok-initial.ensures in
-    started number_tests c.args.line.now _ members c.in_ok-checker.ensures.ok
-    (d, rw c.in-Some.is at c.in_ok-value.ensures, c.if-not-is_named.ensures refl, voters, c.new-held.ensures.items, c.in-Some-first_index.ensures)
+    started number_tests c.args.line.now _ members c.in_ok-checker.ensures.ok (
+      d,
+      rw c.in-Some.is at c.in_ok-value.ensures,
+      c.if-not-is_named.ensures refl,
+      voters,
+      c.new-held.ensures.items,
+      c.in-Some-first_index.ensures,
+    )
     (c.memberships_are_exact.ensures (λ x y e. eqb-true x y e) (λ x y e. eqb-true x y e) (λ x y e. eqb-true x y e))
     c.in_ok-checker.ensures.begins
