@@ -5,6 +5,4 @@ pub mod TermsState
 pub mod Nodes
 pub mod Places
 pub mod Kept
-pub mod Known
-pub mod Noted
 pub mod Seen

@@ -5,7 +5,6 @@ pub mod Rules
 pub mod Safety
 pub mod Apply
 pub mod Configs
-pub mod Counted
 pub mod AppliedConfigs
 pub mod Ranks
 pub mod Execution

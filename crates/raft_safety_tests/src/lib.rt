@@ -26,5 +26,3 @@ mod recorded;
 mod refused;
 #[cfg(test)]
 mod texts;
-#[cfg(test)]
-mod when_applied;
