@@ -24,15 +24,17 @@ type Id = LeaderId<u64>;
 type State = StateOf<LeaderAdv>;
 
 /// Whether a handler did its work, or its allocation error.
-fn is_done<T: Drop, E: From<AllocError> + PartialEq + Drop>(
+fn is_done<T: Drop, E: Copy + From<AllocError> + PartialEq>(
     allocation: Allocation,
     made: Result<T, E>,
 ) -> Result<bool, AllocError> {
-    match made {
-        Ok(_) => Ok(true),
-        Err(refused) if refused == E::from(AllocError) => Err(AllocError),
-        Err(_) => allocation.made(false),
+    let Some(refused) = made.err() else {
+        return Ok(true);
+    };
+    if refused == E::from(AllocError) {
+        return Err(AllocError);
     }
+    allocation.made(false)
 }
 
 /// What a handler made, or an allocation error in the place of any refusal.
