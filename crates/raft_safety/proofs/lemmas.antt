@@ -17,6 +17,7 @@ pub mod TestLemmas
 pub mod TraceLemmas
 pub mod AppendedTraceLemmas
 pub mod AppliedTraceLemmas
+pub mod CountedLemmas
 pub mod CheckedLogLemmas
 pub mod TermsLemmas
 pub mod CheckedServerLemmas
@@ -35,6 +36,7 @@ pub mod AppliedScenarioLemmas
 pub mod MembershipsLemmas
 pub mod MergeLemmas
 pub mod LoopLemmas
+pub mod KnownLemmas
 pub mod LogTreeLemmas
 pub mod CommonLemmas
 pub mod ChildLemmas

@@ -30,6 +30,7 @@ use Rattle.raft_safety.specs.Trace.{
   leader_log_in,
 }
 use Rattle.raft_safety.specs.AppliedTrace.{IsSafeAppliedTrace, applied_tests, hold_at_most_one, is_elected_by_known}
+use Rattle.raft_safety.specs.declared.checker.counting.ConfigsCount.TheVariants.{WhenApplied}
 use Rattle.raft_safety.specs.declared.rule.Rule.{Rule}
 use Rattle.raft_safety.specs.declared.rule.Rule.TheVariants.{ConfigsFollow, NotElected, UnknownConfig}
 
@@ -50,6 +51,7 @@ one_by_one = record {
   initial = 1 ∷ 2 ∷ 3 ∷ [];
   quorum_of = is_majority nat_eq;
   intersect = majorities_meet nat_eq;
+  counting = WhenApplied;
 }
 
 -- these events are allowed, and the next one breaks this rule first

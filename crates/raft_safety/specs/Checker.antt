@@ -5,7 +5,6 @@ use Rattle.std.specs.Result.{MatchResult}
 use Rattle.raft_safety.specs.Log.{Entry, LackContent}
 use Rattle.raft_safety.specs.Trace.{
   same_entry,
-  broken_rule,
   TraceEvent,
   Campaigned,
   Granted,
@@ -18,13 +17,16 @@ use Rattle.raft_safety.specs.Trace.{
   Tests,
   AreExact,
   is_known_committed,
-  are_allowed,
 }
+use Rattle.raft_safety.specs.Counted.{are_all_allowed, first_broken}
 use Rattle.raft_safety.specs.Inner.CheckerState.{LeaderState, ServerState, config_in, knows}
-use Rattle.raft_safety.specs.Inner.Kept.{AreBounded, HaveLogs, Parts, leaders_in, servers_in}
+use Rattle.raft_safety.specs.Inner.Kept.{AreBounded, HaveLogs, Parts, commits_in, leaders_in, servers_in}
+use Rattle.raft_safety.specs.Inner.Known.{SeesKnownBy}
 use Rattle.raft_safety.specs.Inner.Logs.{AreLogs, AreWithout}
 use Rattle.raft_safety.specs.Inner.Places.{ArePlaced}
 use Rattle.raft_safety.specs.Inner.Seen.{SeesServers, SeesLeaders}
+use Rattle.raft_safety.specs.declared.checker.counting.ConfigsCount.{ConfigsCount}
+use Rattle.raft_safety.specs.declared.checker.counting.ConfigsCount.TheVariants.{WhenAppended}
 use Rattle.raft_safety.specs.declared.checker.violation.Violation.{Violation}
 use Rattle.raft_safety.specs.declared.checker.violation.Violation.TheVariants.{OutOfMemory, Rule as BreaksRule}
 use Rattle.raft_safety.specs.declared.checker.learn.LearnError.{LearnError}
@@ -61,7 +63,7 @@ module _ {T ID D : Type 0} (k : Tests T ID D (Option D)) where
   -- what the checker keeps is what the events say, and each of them was allowed
   pub record HasSeen (es : List (TraceEvent T ID D)) (servers : List (ServerState T ID D))
       (leaders : List (LeaderState T ID D)) : Type 0 where
-    pub allowed : are_allowed k es ≡ true
+    pub allowed : are_all_allowed k es ≡ true
     pub see_servers : SeesServers k es servers
     pub see_leaders : SeesLeaders k es leaders
     pub see_commits : (r : ℕ) (p : List (Entry T D)) → is_known_committed k r p es ≡ list_any (knows k.rank (same_entry k) r p) leaders
@@ -78,16 +80,17 @@ module _ {T ID D : Type 0} (k : Tests T ID D (Option D)) where
     pub have_logs : HaveLogs p
     pub placed : ArePlaced k.rank p.places p.leaders
     pub bounded : AreBounded p.committed p.leaders
+    pub known : SeesKnownBy k k.counting es (commits_in p)
     pub unused : (d : D) → AgreeOn d es p
     pub seen : HasSeen es (servers_in p) (leaders_in p)
 
 -- what the checker compares by: ranks and equality, as the types have them, and the configs, as
 -- clauses have them: `T.Term`, `N.PartialEq`, `D.PartialEq` and `C.Configs`. Each config is named by
 -- the content of its entry
-abbrev pub tests_of : {T ID D C : Type 0} → record { eq : T → T → Bool; rank : T → ℕ }
+abbrev pub tests_when : {T ID D C : Type 0} → ConfigsCount → record { eq : T → T → Bool; rank : T → ℕ }
     → eq_ghosts.Ghosts ID → eq_ghosts.Ghosts D → config_ghosts.Ghosts C ID D → C
     → Tests T ID D (Option D)
-tests_of terms ids contents of_type configs = record {
+tests_when counting terms ids contents of_type configs = record {
   rank = terms.rank;
   same_term = terms.eq;
   same_id = ids.eq;
@@ -96,7 +99,15 @@ tests_of terms ids contents of_type configs = record {
   initial = None;
   quorum_of = of_type.has_quorum configs;
   intersect = of_type.intersects configs;
+  counting = counting;
 }
+
+-- the same, if configs count from their append on
+abbrev pub tests_of : {T ID D C : Type 0} → record { eq : T → T → Bool; rank : T → ℕ }
+    → eq_ghosts.Ghosts ID → eq_ghosts.Ghosts D → config_ghosts.Ghosts C ID D → C
+    → Tests T ID D (Option D)
+tests_of terms ids contents of_type configs =
+    tests_when WhenAppended terms ids contents of_type configs
 
 -- a recorded event, as an event of a trace
 abbrev pub event_of : {T ID D : Type 0} → RecordedEvent T ID D → TraceEvent T ID D
@@ -113,6 +124,10 @@ event_of (RecordedApply s t c n) = Applied s t c n
 abbrev pub configs_of : {T ID D C : Type 0} → Checker T ID D C → C
 configs_of c = c.configs
 
+-- when the configs of a checker count
+abbrev pub counting_of : {T ID D C : Type 0} → Checker T ID D C → ConfigsCount
+counting_of c = c.counting
+
 -- what a checker keeps
 abbrev pub kept_by : {T ID D C : Type 0} → Checker T ID D C → Parts T ID D
 kept_by c = record {
@@ -121,6 +136,7 @@ kept_by c = record {
   leaders = c.leaders.items;
   places = c.places.entries;
   committed = c.committed;
+  commits = c.commits.items;
 }
 
 -- an event is refused for the rule that it breaks, or for memory
@@ -135,8 +151,8 @@ module _ {T ID D : Type 0} (k : Tests T ID D (Option D)) where
   Answers e old new result =
       AreExact k → (es : List (TraceEvent T ID D)) → Keeps k es old
       → MatchResult result
-      (λ _. (broken_rule k e es ≡ None) × Keeps k (e ∷ es) new)
-      (λ v. IsRefusal (broken_rule k e es) v × Keeps k es new)
+      (λ _. (first_broken k e es ≡ None) × Keeps k (e ∷ es) new)
+      (λ v. IsRefusal (first_broken k e es) v × Keeps k es new)
 
   -- a checker answers so, and keeps what the events say
   abbrev pub Records : {C : Type 0} → TraceEvent T ID D → Checker T ID D C → Checker T ID D C
@@ -186,5 +202,5 @@ module _ {T ID D : Type 0} (k : Tests T ID D (Option D)) where
   IsFirstRefused events i v =
       ((k.intersect k.initial k.initial ≡ false) × (i ≡ 0) × (v ≡ BreaksRule InitialConfig))
       ⊎ ((e : RecordedEvent T ID D) × (i < length events) × (e ≡ get_or events i e)
-      × (are_allowed k (trace_of (take i events)) ≡ true)
-      × IsRefusal (broken_rule k (event_of e) (trace_of (take i events))) v)
+      × (are_all_allowed k (trace_of (take i events)) ≡ true)
+      × IsRefusal (first_broken k (event_of e) (trace_of (take i events))) v)

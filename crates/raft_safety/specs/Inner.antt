@@ -5,4 +5,6 @@ pub mod TermsState
 pub mod Nodes
 pub mod Places
 pub mod Kept
+pub mod Known
+pub mod Noted
 pub mod Seen

@@ -5,6 +5,7 @@ pub mod Rules
 pub mod Safety
 pub mod Apply
 pub mod Configs
+pub mod Counted
 pub mod AppliedConfigs
 pub mod Ranks
 pub mod Execution

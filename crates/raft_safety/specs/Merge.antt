@@ -26,7 +26,8 @@ use Rattle.std.specs.Prelude.{
 }
 use Rattle.std.specs.Result.{MatchResult}
 use Rattle.std.specs.Global.{Vec}
-use Rattle.raft_safety.specs.Trace.{TraceEvent, Tests, AreExact, IsSafeTrace, TermsHaveRanks, are_allowed, broken_rule}
+use Rattle.raft_safety.specs.Trace.{TraceEvent, Tests, AreExact, TermsHaveRanks}
+use Rattle.raft_safety.specs.Counted.{IsSafeWhen, are_all_allowed, first_broken}
 use Rattle.raft_safety.specs.Checker.{Keeps, event_of, kept_by}
 use Rattle.raft_safety.specs.declared.checker.Checker.{Checker}
 use Rattle.raft_safety.specs.declared.checker.violation.Violation.{Violation}
@@ -77,8 +78,8 @@ module _ {T ID D : Type 0} (k : Tests T ID D (Option D))
   pub record HaveSafeOrder : Type 0 where
     pub trace : List (TraceEvent T ID D)
     pub interleaves : Interleaves lists (map (λ l. length l.items) lists) trace
-    pub allowed : are_allowed k trace ≡ true
-    pub safe : TermsHaveRanks k trace → IsSafeTrace k trace
+    pub allowed : are_all_allowed k trace ≡ true
+    pub safe : TermsHaveRanks k trace → IsSafeWhen k trace
 
   -- after a trace the next event of this list breaks a rule
   pub record IsRefused (placed : List ℕ) (es : List (TraceEvent T ID D)) (list : ℕ) (rule : Rule)
@@ -86,14 +87,14 @@ module _ {T ID D : Type 0} (k : Tests T ID D (Option D))
     pub count : ℕ
     pub event : RecordedEvent T ID D
     pub is_next : IsNext lists placed list count event
-    pub breaks : broken_rule k (event_of event) es ≡ Some rule
+    pub breaks : first_broken k (event_of event) es ≡ Some rule
 
   -- after a trace no list has a next event that is allowed. This list is the first one with a next
   -- event, which is refused for this violation
   pub record AreRefused (placed : List ℕ) (es : List (TraceEvent T ID D)) (list : ℕ) (v : Violation)
       : Type 0 where
     pub none_allowed : (i n : ℕ) (e : RecordedEvent T ID D) → IsNext lists placed i n e
-        → broken_rule k (event_of e) es ≢ None
+        → first_broken k (event_of e) es ≢ None
     pub rule : Rule
     pub is_rule : v ≡ BreaksRule rule
     pub refused : IsRefused placed es list rule
@@ -105,7 +106,7 @@ module _ {T ID D : Type 0} (k : Tests T ID D (Option D))
   pub record IsStuck (placed : List ℕ) (list : ℕ) (v : Violation) : Type 0 where
     pub trace : List (TraceEvent T ID D)
     pub interleaves : Interleaves lists placed trace
-    pub allowed : are_allowed k trace ≡ true
+    pub allowed : are_all_allowed k trace ≡ true
     pub refused : AreRefused placed trace list v
 
   -- memory ran out when the next event of this list was recorded, after an allowed trace that
@@ -113,7 +114,7 @@ module _ {T ID D : Type 0} (k : Tests T ID D (Option D))
   pub record IsInterrupted (placed : List ℕ) (list : ℕ) : Type 0 where
     pub trace : List (TraceEvent T ID D)
     pub interleaves : Interleaves lists placed trace
-    pub allowed : are_allowed k trace ≡ true
+    pub allowed : are_all_allowed k trace ≡ true
     pub count : ℕ
     pub event : RecordedEvent T ID D
     pub is_next : IsNext lists placed list count event

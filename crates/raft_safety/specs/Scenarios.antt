@@ -36,6 +36,7 @@ use Rattle.raft_safety.specs.Trace.{
   has_voted,
   events_in,
 }
+use Rattle.raft_safety.specs.declared.checker.counting.ConfigsCount.TheVariants.{WhenAppended}
 use Rattle.raft_safety.specs.declared.rule.Rule.{Rule}
 use Rattle.raft_safety.specs.declared.rule.Rule.TheVariants.{
   ApartConfigs,
@@ -84,6 +85,7 @@ starting_from configs = record {
   initial = configs;
   quorum_of = is_joint_majority nat_eq;
   intersect = is_coherent nat_eq;
+  counting = WhenAppended;
 }
 
 -- the tests of a cluster of servers 0 to 2
@@ -454,6 +456,7 @@ by_leader_id = record {
   initial = three.initial;
   quorum_of = is_joint_majority nat_eq;
   intersect = is_coherent nat_eq;
+  counting = WhenAppended;
 }
 
 -- two leaders are elected in one term, which is safe, because their leader ids differ

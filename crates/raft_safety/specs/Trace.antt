@@ -36,6 +36,7 @@ use Rattle.raft_safety.specs.Ranks.{IsAmong}
 use Rattle.raft_safety.specs.Facts.{Counting, appended}
 use Rattle.raft_safety.specs.Safety.{IsSafeBy}
 use Rattle.raft_safety.specs.Execution.{IsExecutionBy, Next}
+use Rattle.raft_safety.specs.declared.checker.counting.ConfigsCount.{ConfigsCount}
 use Rattle.raft_safety.specs.declared.rule.Rule.{Rule}
 use Rattle.raft_safety.specs.declared.rule.Rule.TheVariants.{
   PassedTerm,
@@ -86,8 +87,8 @@ pub data TraceEvent (T ID D : Type 0) : Type 0 where
   Applied : ID → T → ID → ℕ → TraceEvent T ID D
 
 -- what the test compares by: the ranks of terms, tests whether terms, ids and contents are equal, the
--- config that a content holds, the initial config, what a quorum of a config is, and a test whether
--- quorums of two configs intersect
+-- config that a content holds, the initial config, what a quorum of a config is, a test whether quorums
+-- of two configs intersect, and when configs count
 pub record Tests (T ID D M : Type 0) : Type 0 where
   pub rank : T → ℕ
   pub same_term : T → T → Bool
@@ -97,6 +98,7 @@ pub record Tests (T ID D M : Type 0) : Type 0 where
   pub initial : M
   pub quorum_of : M → (ID → Bool) → Bool
   pub intersect : M → M → Bool
+  pub counting : ConfigsCount
 
 -- ---- the history that a trace makes
 

@@ -1,9 +1,10 @@
 //! Checking a whole trace.
 ghost use Rattle.std.specs.Prelude.{◌≡◌, true, IfErr, OnOk};
 ghost use Rattle.raft_safety.specs.Trace.{AreExact, IsSafeTrace, TermsHaveRanks, are_allowed};
-ghost use Rattle.raft_safety.specs.Checker.{IsFirstRefused, tests_of, trace_of};
+ghost use Rattle.raft_safety.specs.Checker.{IsFirstRefused, tests_of, tests_when, trace_of};
+ghost use Rattle.raft_safety.specs.Counted.{IsSafeWhen, are_all_allowed};
 
-use crate::checker::{Checker, Configs, Violation};
+use crate::checker::{Checker, Configs, ConfigsCount, Violation};
 use crate::event::Event;
 use crate::term::Term;
 use std::alloc::Global;
@@ -23,7 +24,8 @@ pub struct Refused {
 ///
 /// If it returns `Ok`, the trace is an execution in which every server keeps the rules, so the
 /// trace is safe. This holds if terms, ids and contents that are `==` are equal, terms of one rank
-/// are equal, and quorums of configs intersect where `Configs` says so.
+/// are equal, and quorums of configs intersect where `Configs` says so. Configs count from their
+/// append on.
 ///
 /// # Errors
 ///
@@ -42,7 +44,32 @@ pub fn check<T: Term, N: Copy + Eq, D: Copy + Eq, C: Configs<N, D> + Drop>(
     ensures refused { let k = tests_of T.Term N.PartialEq D.PartialEq C.Configs configs in
         IfErr result (λ r. AreExact k → IsFirstRefused k events.now r.event r.violation) }
 {
-    let mut checker = match Checker::new(alloc, configs) {
+    check_counting(alloc, ConfigsCount::WhenAppended, configs, events)
+}
+
+/// Checks that each event of a trace was allowed by what came before, if configs count in this way.
+///
+/// If it returns `Ok`, the trace is an execution by the rules for such configs, so it is safe. This
+/// holds as it does for `check`.
+///
+/// # Errors
+///
+/// The errors of `check`.
+pub fn check_counting<T: Term, N: Copy + Eq, D: Copy + Eq, C: Configs<N, D> + Drop>(
+    alloc: Global,
+    counting: ConfigsCount,
+    configs: C,
+    events: &[Event<T, N, D>],
+) -> Result<(), Refused>
+    ensures allowed { let k = tests_when counting T.Term N.PartialEq D.PartialEq C.Configs configs in
+        OnOk result (AreExact k → are_all_allowed k (trace_of events.now) ≡ true) }
+    ensures safe { let k = tests_when counting T.Term N.PartialEq D.PartialEq C.Configs configs in
+        OnOk result (AreExact k → TermsHaveRanks k (trace_of events.now) →
+        IsSafeWhen k (trace_of events.now)) }
+    ensures refused { let k = tests_when counting T.Term N.PartialEq D.PartialEq C.Configs configs in
+        IfErr result (λ r. AreExact k → IsFirstRefused k events.now r.event r.violation) }
+{
+    let mut checker = match Checker::counting(alloc, counting, configs) {
         Ok(checker) => checker,
         Err(violation) => {
             return Err(Refused {

@@ -1,14 +1,19 @@
 //! The checker of recorded events: whether each event was allowed by what came before.
-ghost use Rattle.std.specs.Prelude.{◌≡◌, ◌<◌, IfOk, OnErr, drop, length, map};
+ghost use Rattle.std.specs.Prelude.{◌≡◌, ◌<◌, IfOk, IsFalse, OnErr, OnOk, drop, length, map};
 ghost use Rattle.std.specs.List.{list_any};
 ghost use Rattle.raft_safety.specs.Inner.CheckerState.{knows, same_entry_by};
 ghost use Rattle.raft_safety.specs.Inner.Kept.{AreBounded, IsAt, leader_in};
+ghost use Rattle.raft_safety.specs.Inner.Noted.{AreElected, IsNotedBy, IsStale};
+ghost use Rattle.std.specs.VecDeque.{deque_len};
 ghost use Rattle.raft_safety.specs.Inner.Logs.{AreDistinct, IsExact, log_at};
-ghost use Rattle.raft_safety.specs.Checker.{Answers, Begins, Records, configs_of, event_of, kept_by, tests_of};
+ghost use Rattle.raft_safety.specs.Checker.{Answers, Begins, Records, configs_of, counting_of, event_of, kept_by, tests_of, tests_when};
+ghost use Rattle.raft_safety.specs.declared.checker.counting.ConfigsCount.TheVariants.{WhenAppended};
 ghost use Rattle.raft_safety.specs.Trace.{Campaigned, Granted, Appended, Acked, Restarted, Wrote, Committed, Applied};
 
 mod broken;
 mod configs;
+mod counting;
+mod known;
 mod leader;
 mod learn;
 mod logs;
@@ -28,6 +33,8 @@ use broken::{
     write_rule,
 };
 pub use configs::Configs;
+pub use counting::ConfigsCount;
+use known::{Commit, is_elected, note_commit};
 use leader::Leader;
 pub use learn::LearnError;
 use logs::Logs;
@@ -44,6 +51,8 @@ pub use violation::Violation;
 /// server, and the log, the votes and the acknowledgements of each leader, but no list of events.
 #[derive(Drop)]
 pub struct Checker<T, N, D, C> {
+    /// When configs count. A cluster keeps to one way, because no rule allows both.
+    counting: ConfigsCount,
     configs: C,
     /// The logs of servers and leaders. Each entry is kept once.
     logs: Logs<T, D>,
@@ -54,6 +63,9 @@ pub struct Checker<T, N, D, C> {
     places: Places,
     /// No leader has committed more entries.
     committed: usize,
+    /// What leaders have committed, the newest last. It is empty if configs count from their append
+    /// on.
+    commits: Vec<Commit>,
     alloc: Global,
 }
 
@@ -65,18 +77,36 @@ impl<T: Term, N: Copy + Eq, D: Copy + Eq, C: Configs<N, D> + Drop> Checker<T, N,
     /// The rule `InitialConfig`, if quorums of the initial config are not known to intersect.
     pub fn new(alloc: Global, configs: C) -> Result<Self, Violation>
         ensures ok { IfOk result (λ c. configs_of c ≡ configs) }
+        ensures counting { IfOk result (λ c. counting_of c ≡ WhenAppended) }
         ensures begins { Begins (tests_of T.Term N.PartialEq D.PartialEq C.Configs configs) result }
+    {
+        Self::counting(alloc, ConfigsCount::WhenAppended, configs)
+    }
+
+    /// Returns a checker of a cluster in which nothing has happened, and whose configs count in this
+    /// way.
+    ///
+    /// # Errors
+    ///
+    /// The rule `InitialConfig`, if quorums of the initial config are not known to intersect.
+    pub fn counting(alloc: Global, counting: ConfigsCount, configs: C) -> Result<Self, Violation>
+        ensures ok { IfOk result (λ c. configs_of c ≡ configs) }
+        ensures counting { IfOk result (λ c. counting_of c ≡ counting) }
+        ensures begins { Begins (tests_when counting T.Term N.PartialEq D.PartialEq C.Configs
+            configs) result }
     {
         if !configs.do_intersect(None, None) {
             return Err(Violation::Rule(Rule::InitialConfig));
         }
         Ok(Checker {
+            counting,
             configs,
             logs: Logs::new(alloc),
             servers: Vec::new(alloc),
             leaders: VecDeque::new(alloc),
             places: Places::new(alloc),
             committed: 0,
+            commits: Vec::new(alloc),
             alloc,
         })
     }
@@ -89,8 +119,9 @@ impl<T: Term, N: Copy + Eq, D: Copy + Eq, C: Configs<N, D> + Drop> Checker<T, N,
     /// not been recorded.
     pub fn record(&mut self, event: &Event<T, N, D>) -> Result<(), Violation>
         ensures configs { configs_of self.new ≡ configs_of self.old }
+        ensures counting { counting_of self.new ≡ counting_of self.old }
         ensures answer { Records
-            (tests_of T.Term N.PartialEq D.PartialEq C.Configs (configs_of self.old))
+            (tests_when (counting_of self.old) T.Term N.PartialEq D.PartialEq C.Configs (configs_of self.old))
             (event_of event.now) self.old self.new result }
     {
         match event {
@@ -137,8 +168,9 @@ impl<T: Term, N: Copy + Eq, D: Copy + Eq, C: Configs<N, D> + Drop> Checker<T, N,
     /// A server starts a campaign.
     fn campaigned(&mut self, server: N, term: T) -> Result<(), Violation>
         ensures configs { self.new.configs ≡ self.old.configs }
+        ensures counting { self.new.counting ≡ self.old.counting }
         ensures answer { Answers
-            (tests_of T.Term N.PartialEq D.PartialEq C.Configs self.old.configs)
+            (tests_when self.old.counting T.Term N.PartialEq D.PartialEq C.Configs self.old.configs)
             (Campaigned server term) (kept_by self.old) (kept_by self.new) result }
     {
         let i = server_at(self.alloc, &mut self.servers, server)?;
@@ -153,18 +185,17 @@ impl<T: Term, N: Copy + Eq, D: Copy + Eq, C: Configs<N, D> + Drop> Checker<T, N,
         }
         let voter = &mut self.servers[i];
         let len = self.logs.len(voter.log);
-        let config = self.logs.config_content(voter.log);
         self.leaders.reserve(1)?;
         voter.make_room()?;
-        let leader = Leader::new(
-            self.alloc,
+        let mut leader = Leader::new(self.alloc, term, server, voter.log, len)?;
+        let elected = is_elected(
+            self.counting,
             &self.configs,
-            config,
-            term,
-            server,
-            voter.log,
-            len,
-        )?;
+            &self.logs,
+            &self.commits,
+            &leader,
+        );
+        leader.elect(elected);
         note_place(&mut self.places, rank, self.leaders.len())?;
         voter.reach(rank, len);
         self.leaders.push_front_reserved(leader);
@@ -174,8 +205,9 @@ impl<T: Term, N: Copy + Eq, D: Copy + Eq, C: Configs<N, D> + Drop> Checker<T, N,
     /// A server grants its vote.
     fn granted(&mut self, server: N, term: T, candidate: N) -> Result<(), Violation>
         ensures configs { self.new.configs ≡ self.old.configs }
+        ensures counting { self.new.counting ≡ self.old.counting }
         ensures answer { Answers
-            (tests_of T.Term N.PartialEq D.PartialEq C.Configs self.old.configs)
+            (tests_when self.old.counting T.Term N.PartialEq D.PartialEq C.Configs self.old.configs)
             (Granted server term candidate) (kept_by self.old) (kept_by self.new) result }
     {
         let j = match leader_at(&self.leaders, &self.places, term, candidate) {
@@ -205,10 +237,15 @@ impl<T: Term, N: Copy + Eq, D: Copy + Eq, C: Configs<N, D> + Drop> Checker<T, N,
         }
         voter.make_room()?;
         let leader = &mut self.leaders[j];
-        let config = self
-            .logs
-            .config_content(self.logs.first(leader.log, leader.start));
-        leader.vote(&self.configs, config, server)?;
+        leader.vote(server)?;
+        let elected = is_elected(
+            self.counting,
+            &self.configs,
+            &self.logs,
+            &self.commits,
+            leader,
+        );
+        leader.elect(elected);
         voter.reach(rank, self.logs.len(voter.log));
         Ok(())
     }
@@ -223,8 +260,9 @@ impl<T: Term, N: Copy + Eq, D: Copy + Eq, C: Configs<N, D> + Drop> Checker<T, N,
         entries: &[Entry<T, D>],
     ) -> Result<(), Violation>
         ensures configs { self.new.configs ≡ self.old.configs }
+        ensures counting { self.new.counting ≡ self.old.counting }
         ensures answer { Answers
-            (tests_of T.Term N.PartialEq D.PartialEq C.Configs self.old.configs)
+            (tests_when self.old.counting T.Term N.PartialEq D.PartialEq C.Configs self.old.configs)
             (Appended server term leader keep entries.now) (kept_by self.old)
             (kept_by self.new) result }
     {
@@ -256,8 +294,9 @@ impl<T: Term, N: Copy + Eq, D: Copy + Eq, C: Configs<N, D> + Drop> Checker<T, N,
     /// A server acknowledges entries.
     fn acked(&mut self, server: N, term: T, leader: N, len: usize) -> Result<(), Violation>
         ensures configs { self.new.configs ≡ self.old.configs }
+        ensures counting { self.new.counting ≡ self.old.counting }
         ensures answer { Answers
-            (tests_of T.Term N.PartialEq D.PartialEq C.Configs self.old.configs)
+            (tests_when self.old.counting T.Term N.PartialEq D.PartialEq C.Configs self.old.configs)
             (Acked server term leader len) (kept_by self.old) (kept_by self.new) result }
     {
         let j = match leader_at(&self.leaders, &self.places, term, leader) {
@@ -278,8 +317,9 @@ impl<T: Term, N: Copy + Eq, D: Copy + Eq, C: Configs<N, D> + Drop> Checker<T, N,
     /// A server restarts.
     fn restarted(&mut self, server: N, len: usize) -> Result<(), Violation>
         ensures configs { self.new.configs ≡ self.old.configs }
+        ensures counting { self.new.counting ≡ self.old.counting }
         ensures answer { Answers
-            (tests_of T.Term N.PartialEq D.PartialEq C.Configs self.old.configs)
+            (tests_when self.old.counting T.Term N.PartialEq D.PartialEq C.Configs self.old.configs)
             (Restarted server len) (kept_by self.old) (kept_by self.new) result }
     {
         let i = server_at(self.alloc, &mut self.servers, server)?;
@@ -295,15 +335,23 @@ impl<T: Term, N: Copy + Eq, D: Copy + Eq, C: Configs<N, D> + Drop> Checker<T, N,
     /// A leader writes an entry.
     fn wrote(&mut self, leader: N, term: T, entry: Entry<T, D>) -> Result<(), Violation>
         ensures configs { self.new.configs ≡ self.old.configs }
+        ensures counting { self.new.counting ≡ self.old.counting }
         ensures answer { Answers
-            (tests_of T.Term N.PartialEq D.PartialEq C.Configs self.old.configs)
+            (tests_when self.old.counting T.Term N.PartialEq D.PartialEq C.Configs self.old.configs)
             (Wrote leader term entry) (kept_by self.old) (kept_by self.new) result }
     {
         let j = match leader_at(&self.leaders, &self.places, term, leader) {
             Some(j) => j,
             None => return Err(Violation::Rule(Rule::NotElected)),
         };
-        match write_rule(&self.configs, &self.logs, &self.leaders[j], term, entry) {
+        match write_rule(
+            self.counting,
+            &self.configs,
+            &self.logs,
+            &self.leaders[j],
+            term,
+            entry,
+        ) {
             Some(rule) => return Err(Violation::Rule(rule)),
             None => {}
         }
@@ -322,15 +370,23 @@ impl<T: Term, N: Copy + Eq, D: Copy + Eq, C: Configs<N, D> + Drop> Checker<T, N,
         counted_at: usize,
     ) -> Result<(), Violation>
         ensures configs { self.new.configs ≡ self.old.configs }
+        ensures counting { self.new.counting ≡ self.old.counting }
         ensures answer { Answers
-            (tests_of T.Term N.PartialEq D.PartialEq C.Configs self.old.configs)
+            (tests_when self.old.counting T.Term N.PartialEq D.PartialEq C.Configs self.old.configs)
             (Committed leader term len counted_at) (kept_by self.old) (kept_by self.new) result }
     {
         let j = match leader_at(&self.leaders, &self.places, term, leader) {
             Some(j) => j,
             None => return Err(Violation::Rule(Rule::NotElected)),
         };
-        match commit_rule(&self.logs, &self.leaders[j], len, counted_at) {
+        match commit_rule(
+            self.counting,
+            &self.logs,
+            &self.commits,
+            &self.leaders[j],
+            len,
+            counted_at,
+        ) {
             Some(rule) => return Err(Violation::Rule(rule)),
             None => {}
         }
@@ -341,16 +397,79 @@ impl<T: Term, N: Copy + Eq, D: Copy + Eq, C: Configs<N, D> + Drop> Checker<T, N,
         if !self.configs.is_quorum(config, &servers) {
             return Err(Violation::Rule(Rule::NoQuorum));
         }
+        let is_new = self.note(j, len, counted_at)?;
         self.leaders[j].commit(len);
         self.committed = self.committed.max(len);
+        if is_new {
+            self.elect();
+        }
         Ok(())
+    }
+
+    /// Notes that a leader commits so many first entries, if configs count once they are applied.
+    /// Returns whether the last config among these entries can become known by it. Only then can a
+    /// candidate become elected by it.
+    ///
+    /// # Errors
+    ///
+    /// Out of memory. Nothing is noted then.
+    fn note(&mut self, leader: usize, len: usize, counted_at: usize) -> Result<bool, AllocError>
+        requires { leader < deque_len self.old.leaders }
+        ensures noted { OnOk result (IsNotedBy (tests_when self.old.counting T.Term N.PartialEq
+            D.PartialEq C.Configs self.old.configs) (kept_by self.old) leader len counted_at
+            self.new.commits.items) }
+        ensures stale { IfOk result (λ is_new. IsFalse is_new → IsStale
+            (tests_when self.old.counting T.Term N.PartialEq D.PartialEq C.Configs self.old.configs)
+            (kept_by self.old) leader len) }
+        ensures err { OnErr result (self.new.commits.items ≡ self.old.commits.items) }
+        ensures rest { self.new ≡ record self.old { commits = self.new.commits } }
+    {
+        if !self.counting.is_applied() {
+            return Ok(false);
+        }
+        let log = self.logs.first(self.leaders[leader].log, len);
+        let rank = self.leaders[leader].term.rank();
+        let is_old = any_knows(
+            &self.logs,
+            &self.leaders,
+            self.committed,
+            leader,
+            rank,
+            self.logs.config(log),
+        );
+        let commit = Commit {
+            rank,
+            counted_at,
+            log,
+        };
+        note_commit(&self.logs, &mut self.commits, commit)?;
+        Ok(!is_old)
+    }
+
+    /// Finds which candidates are elected, after a config has become known.
+    fn elect(&mut self)
+        ensures leaders { AreElected (tests_when self.old.counting T.Term N.PartialEq D.PartialEq
+            C.Configs self.old.configs) (kept_by self.old) self.new.leaders.items }
+        ensures rest { self.new ≡ record self.old { leaders = self.new.leaders } }
+    {
+        for j in 0..self.leaders.len() {
+            let elected = is_elected(
+                self.counting,
+                &self.configs,
+                &self.logs,
+                &self.commits,
+                &self.leaders[j],
+            );
+            self.leaders[j].elect(elected);
+        }
     }
 
     /// A server applies entries.
     fn applied(&mut self, server: N, term: T, leader: N, len: usize) -> Result<(), Violation>
         ensures configs { self.new.configs ≡ self.old.configs }
+        ensures counting { self.new.counting ≡ self.old.counting }
         ensures answer { Answers
-            (tests_of T.Term N.PartialEq D.PartialEq C.Configs self.old.configs)
+            (tests_when self.old.counting T.Term N.PartialEq D.PartialEq C.Configs self.old.configs)
             (Applied server term leader len) (kept_by self.old) (kept_by self.new) result }
     {
         let j = match leader_at(&self.leaders, &self.places, term, leader) {

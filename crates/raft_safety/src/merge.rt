@@ -1,10 +1,10 @@
 //! Checking lists of events without an order between them.
 ghost use Rattle.std.specs.Prelude.{◌≡◌, length, IfErr, IfOk, IsFalse, IsTrue, OnErr, OnOk};
 ghost use Rattle.raft_safety.specs.Trace.{AreExact};
-ghost use Rattle.raft_safety.specs.Checker.{configs_of, tests_of};
+ghost use Rattle.raft_safety.specs.Checker.{configs_of, counting_of, tests_of, tests_when};
 ghost use Rattle.raft_safety.specs.Merge.{AreAllPlaced, HaveSafeOrder, IsPlaced, IsRefusedMerge, RecordsNext};
 
-use crate::checker::{Checker, Configs, Violation};
+use crate::checker::{Checker, Configs, ConfigsCount, Violation};
 use crate::event::Event;
 use crate::term::Term;
 use std::alloc::Global;
@@ -48,6 +48,29 @@ pub fn check_each<T: Term, N: Copy + Eq, D: Copy + Eq, C: Configs<N, D> + Drop>(
         IfErr result (λ u. AreExact k →
         IsRefusedMerge k lists.now u.placed.items u.list u.violation) }
 {
+    check_each_counting(alloc, ConfigsCount::WhenAppended, configs, lists)
+}
+
+/// Checks that lists of events, one of each server, have an order in which each event was allowed, if
+/// configs count in this way.
+///
+/// It does what `check_each` does, by the rules for such configs.
+///
+/// # Errors
+///
+/// The errors of `check_each`.
+pub fn check_each_counting<T: Term, N: Copy + Eq, D: Copy + Eq, C: Configs<N, D> + Drop>(
+    alloc: Global,
+    counting: ConfigsCount,
+    configs: C,
+    lists: &[Vec<Event<T, N, D>>],
+) -> Result<(), Unplaced>
+    ensures safe { let k = tests_when counting T.Term N.PartialEq D.PartialEq C.Configs configs in
+        OnOk result (AreExact k → HaveSafeOrder k lists.now) }
+    ensures refused { let k = tests_when counting T.Term N.PartialEq D.PartialEq C.Configs configs in
+        IfErr result (λ u. AreExact k →
+        IsRefusedMerge k lists.now u.placed.items u.list u.violation) }
+{
     let Ok(mut placed) = vec![in alloc; 0; lists.len()] else {
         return Err(Unplaced {
             placed: Vec::new(alloc),
@@ -55,7 +78,7 @@ pub fn check_each<T: Term, N: Copy + Eq, D: Copy + Eq, C: Configs<N, D> + Drop>(
             violation: Violation::OutOfMemory,
         });
     };
-    let mut checker = match Checker::new(alloc, configs) {
+    let mut checker = match Checker::counting(alloc, counting, configs) {
         Ok(checker) => checker,
         Err(violation) => {
             return Err(Unplaced {
@@ -94,13 +117,14 @@ fn record_next<T: Term, N: Copy + Eq, D: Copy + Eq, C: Configs<N, D> + Drop>(
 ) -> Result<bool, (usize, Violation)>
     requires { length placed.old ≡ length lists.now }
     ensures configs { configs_of checker.new ≡ configs_of checker.old }
+    ensures counting { counting_of checker.new ≡ counting_of checker.old }
     ensures more { IfOk result (λ more. IsTrue more → IsPlaced lists.now placed.old placed.new) }
     ensures ended { IfOk result (λ more. IsFalse more →
         (placed.new ≡ placed.old) × AreAllPlaced lists.now placed.old) }
     ensures same { OnErr result (placed.new ≡ placed.old) }
     ensures records { RecordsNext
-        (tests_of T.Term N.PartialEq D.PartialEq C.Configs (configs_of checker.old)) lists.now
-        placed.old checker.old placed.new checker.new result }
+        (tests_when (counting_of checker.old) T.Term N.PartialEq D.PartialEq C.Configs
+        (configs_of checker.old)) lists.now placed.old checker.old placed.new checker.new result }
 {
     let mut refused = None;
     for i in 0..lists.len() {

@@ -26,3 +26,5 @@ mod recorded;
 mod refused;
 #[cfg(test)]
 mod texts;
+#[cfg(test)]
+mod when_applied;

@@ -24,6 +24,8 @@ use Rattle.std.specs.Prelude.{
   length,
   get_or,
   set,
+  take,
+  drop,
 }
 use Rattle.std.specs.List.{find, list_any, position, position_or_len, slice_get}
 use Rattle.std.specs.Option.{MatchOption}
@@ -52,7 +54,9 @@ use Rattle.raft_safety.specs.Trace.{
   has_voted,
   has_acked,
   has_campaigned,
-  is_elected,
+  hold_no_config,
+  is_earlier,
+  is_known_by,
   is_quorum_of_log,
   same_leader,
   term_in,
@@ -60,7 +64,11 @@ use Rattle.raft_safety.specs.Trace.{
   and_append,
   and_restart,
 }
-use Rattle.raft_safety.specs.Inner.Seen.{committed_in, SeesLeader, SeesNoLeader, SeesLeaders, find_leader}
+use Rattle.raft_safety.specs.AppliedTrace.{hold_at_most_one, some_upto}
+use Rattle.raft_safety.specs.Counted.{is_elected_when, tests_by}
+use Rattle.raft_safety.specs.declared.checker.counting.ConfigsCount.{ConfigsCount}
+use Rattle.raft_safety.specs.declared.checker.counting.ConfigsCount.TheVariants.{WhenAppended, WhenApplied}
+use Rattle.raft_safety.specs.Inner.Seen.{committed_in, tally, SeesLeader, SeesNoLeader, SeesLeaders, find_leader}
 use Rattle.raft_safety.specs.Inner.CheckerState.{LeaderState}
 use Rattle.raft_safety.proofs.lemmas.TestLemmas.{leader_right}
 use Rattle.raft_safety.proofs.lemmas.CheckedServerLemmas.{place_of}
@@ -144,6 +152,37 @@ module _ {T ID D : Type 0} (k : Tests T ID D (Option D)) (exact : AreExact k) wh
     pub acked : (v : ID) (n : ℕ)
         → has_acked k u d n (events_in k new v) ≡ has_acked k u d n (events_in k es v)
     pub committed : committed_in k new u d ≡ committed_in k es u d
+    pub elected : is_elected_when k new u d ≡ is_elected_when k es u d
+
+  -- a candidate stays elected, or not elected, if its log, its votes and what is known to it stay
+  pub elected_same : (es new : List (TraceEvent T ID D)) (u : T) (d : ID)
+      → candidate_log_in k new u d ≡ candidate_log_in k es u d
+      → ((v : ID) → has_voted k u d (events_in k new v) ≡ has_voted k u d (events_in k es v))
+      → ((p : List (Entry T D)) → is_known_by k (is_earlier k u) p new ≡ is_known_by k (is_earlier k u) p es)
+      → is_elected_when k new u d ≡ is_elected_when k es u d
+  elected_same es new u d log voted known = go k.counting
+    where
+      go : (w : ConfigsCount)
+          → (tests_by k w).is_elected new u d ≡ (tests_by k w).is_elected es u d
+      go WhenAppended = λ i. voted d i && is_quorum_of_log k (log i) (λ v. voted v i)
+      go WhenApplied =
+          λ i. voted d i && some_upto (length (log i))
+          (λ a. (hold_no_config k (take a (log i)) || known (take a (log i)) i)
+          && (hold_at_most_one k (drop a (log i)) && is_quorum_of_log k (take a (log i)) (λ v. voted v i)))
+
+  -- a candidate is elected by those who have voted for it
+  pub elected_by : (es : List (TraceEvent T ID D)) (t : T) (c : ID) (log : List (Entry T D))
+      (voters : ID → Bool) → candidate_log_in k es t c ≡ log
+      → ((v : ID) → has_voted k t c (events_in k es v) ≡ voters v) → voters c ≡ true
+      → is_elected_when k es t c ≡ tally k k.counting es t log voters
+  elected_by es t c log voters same voted own = go k.counting
+    where
+      go : (w : ConfigsCount) → (tests_by k w).is_elected es t c ≡ tally k w es t log voters
+      go WhenAppended = λ i. (voted c ∙ own) i && is_quorum_of_log k (same i) (λ v. voted v i)
+      go WhenApplied =
+          λ i. (voted c ∙ own) i && some_upto (length (same i))
+          (λ a. (hold_no_config k (take a (same i)) || is_known_by k (is_earlier k t) (take a (same i)) es)
+          && (hold_at_most_one k (drop a (same i)) && is_quorum_of_log k (take a (same i)) (λ v. voted v i)))
 
   pub stays : (es new : List (TraceEvent T ID D)) (u : T) (d : ID) → SameFor es new u d
       → (o : Option (LeaderState T ID D)) → MatchOption o (SeesNoLeader k es u d) (SeesLeader k es u d)
@@ -164,14 +203,11 @@ module _ {T ID D : Type 0} (k : Tests T ID D (Option D)) (exact : AreExact k) wh
     voted = λ v. same.voted v ∙ sees.voted v;
     distinct = sees.distinct;
     own_vote = sees.own_vote;
-    elected = elected ∙ sees.elected;
+    elected = same.elected ∙ sees.elected;
     acked = λ v n. same.acked v n ∙ sees.acked v n;
     committed = same.committed ∙ sees.committed;
     within = sees.within;
   }
-    where
-      elected : is_elected k new u d ≡ is_elected k es u d
-      elected = λ i. same.voted d i && is_quorum_of_log k (same.candidate_log i) (λ v. same.voted v i)
 
   -- a leader is replaced, because other facts hold of it now
   pub see_leader_set : (es new : List (TraceEvent T ID D)) (leaders : List (LeaderState T ID D)) (i : ℕ)
@@ -331,6 +367,7 @@ module _ {T ID D : Type 0} (k : Tests T ID D (Option D)) (exact : AreExact k) wh
     voted = λ v. vote_of_other (k.same_id c v) t u c d (events_in k es v) e;
     acked = λ v n. vote_no_ack (k.same_id c v) t u c d n (events_in k es v);
     committed = refl;
+    elected = elected_same es (Campaigned c t ∷ es) u d (rw e refl) (λ v. vote_of_other (k.same_id c v) t u c d (events_in k es v) e) (λ p. refl);
   }
 
   pub grant_to_other : (es : List (TraceEvent T ID D)) (s : ID) (t u : T) (c d : ID)
@@ -342,6 +379,7 @@ module _ {T ID D : Type 0} (k : Tests T ID D (Option D)) (exact : AreExact k) wh
     voted = λ v. vote_in_other (k.same_id s v) t u c d (events_in k es v) e;
     acked = λ v n. any_vote_no_ack (k.same_id s v) t u c d n (events_in k es v);
     committed = refl;
+    elected = elected_same es (Granted s t c ∷ es) u d (refl) (λ v. vote_in_other (k.same_id s v) t u c d (events_in k es v) e) (λ p. refl);
   }
 
   pub late_vote_same : (es : List (TraceEvent T ID D)) (s : ID) (t u : T) (c d : ID)
@@ -353,6 +391,7 @@ module _ {T ID D : Type 0} (k : Tests T ID D (Option D)) (exact : AreExact k) wh
     voted = λ v. no_vote v (k.same_id s v) refl;
     acked = λ v n. any_vote_no_ack (k.same_id s v) t u c d n (events_in k es v);
     committed = refl;
+    elected = elected_same es (Granted s t c ∷ es) u d (refl) (λ v. no_vote v (k.same_id s v) refl) (λ p. refl);
   }
     where
       no_vote : (v : ID) (b : Bool) → k.same_id s v ≡ b
@@ -372,6 +411,7 @@ module _ {T ID D : Type 0} (k : Tests T ID D (Option D)) (exact : AreExact k) wh
     voted = λ v. append_no_vote (k.same_id s v) t u c d n sent (events_in k es v);
     acked = λ v m. append_no_ack (k.same_id s v) t u c d n m sent (events_in k es v);
     committed = refl;
+    elected = elected_same es (Appended s t c n sent ∷ es) u d (refl) (λ v. append_no_vote (k.same_id s v) t u c d n sent (events_in k es v)) (λ p. refl);
   }
 
   pub ack_to_other : (es : List (TraceEvent T ID D)) (s : ID) (t u : T) (c d : ID) (n : ℕ)
@@ -383,6 +423,7 @@ module _ {T ID D : Type 0} (k : Tests T ID D (Option D)) (exact : AreExact k) wh
     voted = λ v. ack_no_vote (k.same_id s v) t u c d n (events_in k es v);
     acked = λ v m. ack_of_other (k.same_id s v) t u c d n m (events_in k es v) e;
     committed = refl;
+    elected = elected_same es (Acked s t c n ∷ es) u d (refl) (λ v. ack_no_vote (k.same_id s v) t u c d n (events_in k es v)) (λ p. refl);
   }
 
   pub restart_same : (es : List (TraceEvent T ID D)) (s : ID) (u : T) (d : ID) (n : ℕ)
@@ -394,6 +435,7 @@ module _ {T ID D : Type 0} (k : Tests T ID D (Option D)) (exact : AreExact k) wh
     voted = λ v. restart_no_vote (k.same_id s v) u d n (events_in k es v);
     acked = λ v m. restart_no_ack (k.same_id s v) u d n m (events_in k es v);
     committed = refl;
+    elected = elected_same es (Restarted s n ∷ es) u d (refl) (λ v. restart_no_vote (k.same_id s v) u d n (events_in k es v)) (λ p. refl);
   }
 
   pub write_of_other : (es : List (TraceEvent T ID D)) (t u : T) (c d : ID) (x : Entry T D)
@@ -405,17 +447,21 @@ module _ {T ID D : Type 0} (k : Tests T ID D (Option D)) (exact : AreExact k) wh
     voted = λ v. refl;
     acked = λ v m. refl;
     committed = refl;
+    elected = elected_same es (Wrote c t x ∷ es) u d (refl) (λ v. refl) (λ p. refl);
   }
 
   pub commit_of_other : (es : List (TraceEvent T ID D)) (t u : T) (c d : ID) (n m : ℕ)
-      → same_leader k t c u d ≡ false → SameFor es (Committed c t n m ∷ es) u d
-  commit_of_other es t u c d n m e = record {
+      → same_leader k t c u d ≡ false
+      → is_elected_when k (Committed c t n m ∷ es) u d ≡ is_elected_when k es u d
+      → SameFor es (Committed c t n m ∷ es) u d
+  commit_of_other es t u c d n m e elected = record {
     campaigned = refl;
     candidate_log = refl;
     leader_log = refl;
     voted = λ v. refl;
     acked = λ v m. refl;
     committed = rw e refl;
+    elected = elected;
   }
 
   pub apply_same : (es : List (TraceEvent T ID D)) (s : ID) (t u : T) (c d : ID) (n : ℕ)
@@ -427,4 +473,5 @@ module _ {T ID D : Type 0} (k : Tests T ID D (Option D)) (exact : AreExact k) wh
     voted = λ v. refl;
     acked = λ v m. refl;
     committed = refl;
+    elected = elected_same es (Applied s t c n ∷ es) u d (refl) (λ v. refl) (λ p. refl);
   }

@@ -48,6 +48,9 @@ use Rattle.raft_safety.specs.declared.rule.Rule.TheVariants.{
   EarlyConfig,
   EarlierTerm,
   CountedEarly,
+  CountedLate,
+  UnknownConfig,
+  ConfigsFollow,
   NoQuorum,
   NotInLog,
   NotCommitted,
@@ -83,9 +86,6 @@ use Rattle.raft_safety.specs.Trace.{
   Applied,
   events_in,
   has_campaigned,
-  is_elected,
-  is_allowed,
-  are_allowed,
   same_entry,
   same_leader,
   hold_no_config,
@@ -103,11 +103,14 @@ use Rattle.raft_safety.specs.Trace.{
   is_prefix,
   common_prefix,
   unless,
-  broken_rule,
   proposal_rule,
   log_in,
 }
+use Rattle.raft_safety.specs.Counted.{are_all_allowed, first_broken, is_allowed_when, is_elected_when, tests_by}
+use Rattle.raft_safety.specs.declared.checker.counting.ConfigsCount.{ConfigsCount}
+use Rattle.raft_safety.specs.declared.checker.counting.ConfigsCount.TheVariants.{WhenAppended, WhenApplied}
 use Rattle.raft_safety.specs.Inner.CheckerState.{
+  early_rule,
   write_rule,
   config_rule,
   config_in,
@@ -117,6 +120,7 @@ use Rattle.raft_safety.specs.Inner.CheckerState.{
   restart_rule,
   grant_rule,
   commit_rule,
+  counted_rule,
   knows,
   has_committed,
   has_kept_by,
@@ -130,7 +134,9 @@ use Rattle.raft_safety.specs.Inner.CheckerState.{
   apply_rule,
 }
 use Rattle.raft_safety.specs.Checker.{HasSeen}
+use Rattle.raft_safety.specs.AppliedTrace.{hold_at_most_one, may_count_acks}
 use Rattle.raft_safety.specs.Inner.Seen.{
+  tally,
   SeesServer,
   committed_in,
   kept_at,
@@ -174,6 +180,8 @@ use Rattle.raft_safety.proofs.lemmas.CheckedLeaderLemmas.{
   any_vote_no_ack,
   late_vote_same,
   campaign_of_other,
+  elected_by,
+  elected_same,
   grant_to_other,
   found_at,
   none_found,
@@ -204,8 +212,8 @@ append_first same s l r n sent free =
 
 module _ {T ID D M : Type 0} (k : Tests T ID D M) where
   pub more_allowed : (e : TraceEvent T ID D) (es : List (TraceEvent T ID D))
-      → broken_rule k e es ≡ None → are_allowed k es ≡ true → are_allowed k (e ∷ es) ≡ true
-  more_allowed e es h g = and_from (is_allowed k e es) (are_allowed k es) (ap is_none h) g
+      → first_broken k e es ≡ None → are_all_allowed k es ≡ true → are_all_allowed k (e ∷ es) ≡ true
+  more_allowed e es h g = and_from (is_allowed_when k e es) (are_all_allowed k es) (ap is_none h) g
 
 or_turn : (a b : Bool) → (a || b) ≡ (b || a)
 or_turn true true = refl
@@ -309,7 +317,7 @@ module _ {T ID D : Type 0} (k : Tests T ID D (Option D)) (exact : AreExact k) wh
   -- ---- restarts
 
   pub restart_right : (es : List (TraceEvent T ID D)) (id : ID) (s : ServerState T ID D) (n : ℕ)
-      → SeesServer k (events_in k es id) s → broken_rule k (Restarted id n) es ≡ restart_rule s n
+      → SeesServer k (events_in k es id) s → first_broken k (Restarted id n) es ≡ restart_rule s n
   restart_right es id s n sees = rw (sees.durable, sees.log) refl
 
   -- the events of a server are those of each server with an equal id
@@ -360,7 +368,7 @@ module _ {T ID D : Type 0} (k : Tests T ID D (Option D)) (exact : AreExact k) wh
       → HasSeen k es servers leaders → restart_rule s n ≡ None
       → new.id ≡ s.id → new.term ≡ s.term → new.voted ≡ s.voted → new.log ≡ take n s.log
       → new.durable ≡ min s.durable n → ((r : ℕ) → kept_from 0 new.kept r ≡ min (kept_from 0 s.kept r) n)
-      → (broken_rule k (Restarted id n) es ≡ None)
+      → (first_broken k (Restarted id n) es ≡ None)
       × HasSeen k (Restarted id n ∷ es) (set servers i new) leaders
   restart_seen es id servers leaders i n s new at_i is seen free same_id same_term vote log dur kept = (
     ok,
@@ -379,7 +387,7 @@ module _ {T ID D : Type 0} (k : Tests T ID D (Option D)) (exact : AreExact k) wh
       at_s : SeesServer k (events_in k es id) s
       at_s = rw is (server_seen es servers id i s seen.see_servers at_i)
 
-      ok : broken_rule k (Restarted id n) es ≡ None
+      ok : first_broken k (Restarted id n) es ≡ None
       ok = restart_right es id s n at_s ∙ free
 
       within : n ≤ length s.log
@@ -397,7 +405,7 @@ module _ {T ID D : Type 0} (k : Tests T ID D (Option D)) (exact : AreExact k) wh
   pub append_right : (es : List (TraceEvent T ID D)) (id : ID) (t : T) (c : ID) (n : ℕ)
       (sent : List (Entry T D)) (s : ServerState T ID D) (l : LeaderState T ID D)
       → SeesServer k (events_in k es id) s → SeesLeader k es t c l
-      → broken_rule k (Appended id t c n sent) es ≡ append_rule (same_entry k) s l (k.rank t) n sent
+      → first_broken k (Appended id t c n sent) es ≡ append_rule (same_entry k) s l (k.rank t) n sent
   append_right es id t c n sent s l sees leads =
       rw (leads.elected, sees.term, sees.log, leads.leader_log)
       (inner (cases_Bool (nat_le n (length s.log))))
@@ -431,7 +439,7 @@ module _ {T ID D : Type 0} (k : Tests T ID D (Option D)) (exact : AreExact k) wh
       → new.durable ≡ min s.durable (n + common_len (same_entry k) (drop n s.log) sent)
       → ((r : ℕ) → kept_from 0 new.kept r ≡ min (kept_after s.kept s.term (length s.log) (k.rank t) r)
       (n + common_len (same_entry k) (drop n s.log) sent))
-      → (broken_rule k (Appended id t c n sent) es ≡ None)
+      → (first_broken k (Appended id t c n sent) es ≡ None)
       × HasSeen k (Appended id t c n sent ∷ es) (set servers i new) leaders
   append_seen es id t c n sent servers leaders i j s new l at_i is at_j is_l seen free same_id term vote log dur kept = (
     ok,
@@ -453,7 +461,7 @@ module _ {T ID D : Type 0} (k : Tests T ID D (Option D)) (exact : AreExact k) wh
       at_l : SeesLeader k es t c l
       at_l = rw is_l (leader_seen es leaders t c j l seen.see_leaders at_j)
 
-      ok : broken_rule k (Appended id t c n sent) es ≡ None
+      ok : first_broken k (Appended id t c n sent) es ≡ None
       ok = append_right es id t c n sent s l at_s at_l ∙ free
 
       rules : (s.term ≤ k.rank t) × (n ≤ length s.log)
@@ -474,7 +482,7 @@ module _ {T ID D : Type 0} (k : Tests T ID D (Option D)) (exact : AreExact k) wh
   pub ack_right : (es : List (TraceEvent T ID D)) (id : ID) (t : T) (c : ID) (n : ℕ)
       (s : ServerState T ID D) (l : LeaderState T ID D) → SeesServer k (events_in k es id) s
       → SeesLeader k es t c l
-      → broken_rule k (Acked id t c n) es ≡ ack_rule (same_entry k) s l (k.rank t) n
+      → first_broken k (Acked id t c n) es ≡ ack_rule (same_entry k) s l (k.rank t) n
   ack_right es id t c n s l sees leads =
       rw (leads.elected, sees.term, leads.leader_log) (ap (λ b. unless l.elected NotElected
       (unless (nat_le (k.rank t) s.term) TermNotReached
@@ -545,7 +553,7 @@ module _ {T ID D : Type 0} (k : Tests T ID D (Option D)) (exact : AreExact k) wh
       → ((v : ID) (m : ℕ) → has_acked_to k.same_id lnew.acked v m
       ≡ (has_acked_to k.same_id l.acked v m || (k.same_id id v && nat_le m n)))
       → LeaderIs lnew l.term l.id l.start l.log l.voters l.elected l.committed
-      → (broken_rule k (Acked id t c n) es ≡ None)
+      → (first_broken k (Acked id t c n) es ≡ None)
       × HasSeen k (Acked id t c n ∷ es) (set servers i new) (set leaders j lnew)
   ack_seen es id t c n servers leaders i j s new l lnew at_i is at_j is_l seen free same_id term vote log dur kept acked same = (
     ok,
@@ -569,9 +577,8 @@ module _ {T ID D : Type 0} (k : Tests T ID D (Option D)) (exact : AreExact k) wh
             distinct = rw same.voters at_l.distinct;
             own_vote = rw same.voters at_l.own_vote;
             elected =
-                (λ q. ack_no_vote k exact (k.same_id id c) t t c c n (events_in k es c) q
-                && is_quorum_of_log k (candidate_log_in k es t c)
-                (λ v. ack_no_vote k exact (k.same_id id v) t t c c n (events_in k es v) q))
+                elected_same k exact es (Acked id t c n ∷ es) t c refl
+                (λ v. ack_no_vote k exact (k.same_id id v) t t c c n (events_in k es v)) (λ p. refl)
                 ∙ at_l.elected ∙ sym same.elected;
             acked = λ v m. counted v m (k.same_id id v) refl ∙ sym (acked v m);
             committed = at_l.committed ∙ sym same.committed;
@@ -588,7 +595,7 @@ module _ {T ID D : Type 0} (k : Tests T ID D (Option D)) (exact : AreExact k) wh
       at_l : SeesLeader k es t c l
       at_l = rw is_l (leader_seen es leaders t c j l seen.see_leaders at_j)
 
-      ok : broken_rule k (Acked id t c n) es ≡ None
+      ok : first_broken k (Acked id t c n) es ≡ None
       ok = ack_right es id t c n s l at_s at_l ∙ free
 
       place : (j < length leaders) × (same_leader k lnew.term lnew.id t c ≡ true)
@@ -613,12 +620,25 @@ module _ {T ID D : Type 0} (k : Tests T ID D (Option D)) (exact : AreExact k) wh
   pub grant_right : (es : List (TraceEvent T ID D)) (id : ID) (t : T) (c : ID)
       (s : ServerState T ID D) (l : LeaderState T ID D) → SeesServer k (events_in k es id) s
       → SeesLeader k es t c l
-      → broken_rule k (Granted id t c) es ≡ grant_rule k.rank k.same_id s l id (k.rank t) c
+      → first_broken k (Granted id t c) es ≡ grant_rule k.rank k.same_id s l id (k.rank t) c
   grant_right es id t c s l sees leads =
       rw (leads.campaigned, sees.term, sees.voted, leads.candidate_log, sees.log) refl
 
   same_id_turn : (a b : ID) → k.same_id a b ≡ k.same_id b a
   same_id_turn a b = same_sym k.same_id exact.same_id exact.id_itself a b
+
+  -- a vote or a campaign makes no config known
+  vote_tally : (w : ConfigsCount) (es : List (TraceEvent T ID D)) (id : ID) (t : T) (c : ID)
+      (log : List (Entry T D)) (voters : ID → Bool)
+      → tally k w (Granted id t c ∷ es) t log voters ≡ tally k w es t log voters
+  vote_tally WhenAppended es id t c log voters = refl
+  vote_tally WhenApplied es id t c log voters = refl
+
+  campaign_tally : (w : ConfigsCount) (es : List (TraceEvent T ID D)) (t : T) (c : ID)
+      (log : List (Entry T D)) (voters : ID → Bool)
+      → tally k w (Campaigned c t ∷ es) t log voters ≡ tally k w es t log voters
+  campaign_tally WhenAppended es t c log voters = refl
+  campaign_tally WhenApplied es t c log voters = refl
 
   pub grant_seen : (es : List (TraceEvent T ID D)) (id : ID) (t : T) (c : ID)
       (servers : List (ServerState T ID D)) (leaders : List (LeaderState T ID D)) (i j : ℕ)
@@ -633,11 +653,10 @@ module _ {T ID D : Type 0} (k : Tests T ID D (Option D)) (exact : AreExact k) wh
       → ((v : ID) → is_member k.same_id lnew.voters v
       ≡ (is_member k.same_id l.voters v || k.same_id v id))
       → IsDistinct k.same_id lnew.voters
-      → lnew.elected ≡ k.quorum_of (effective_config k.config_of k.initial (take l.start l.log))
-      (is_member k.same_id lnew.voters)
+      → lnew.elected ≡ tally k k.counting es t (take l.start l.log) (is_member k.same_id lnew.voters)
       → lnew.acked ≡ l.acked
       → LeaderIs lnew l.term l.id l.start l.log lnew.voters lnew.elected l.committed
-      → (broken_rule k (Granted id t c) es ≡ None)
+      → (first_broken k (Granted id t c) es ≡ None)
       × HasSeen k (Granted id t c ∷ es) (set servers i new) (set leaders j lnew)
   grant_seen es id t c servers leaders i j s new l lnew at_i is at_j is_l seen free above same_id term vote log dur kept voted
       distinct elected acked
@@ -663,7 +682,9 @@ module _ {T ID D : Type 0} (k : Tests T ID D (Option D)) (exact : AreExact k) wh
                 distinct = distinct;
                 own_vote = own;
                 elected =
-                    (λ q. (votes c ∙ own) q && is_quorum_of_log k (at_l.candidate_log q) (λ v. votes v q))
+                    elected_by k exact (Granted id t c ∷ es) t c (take l.start l.log)
+                    (is_member k.same_id lnew.voters) at_l.candidate_log votes own
+                    ∙ vote_tally k.counting es id t c (take l.start l.log) (is_member k.same_id lnew.voters)
                     ∙ sym elected;
                 acked = λ v m. any_vote_no_ack k exact (k.same_id id v) t t c c m (events_in k es v) ∙ at_l.acked v m
                     ∙ sym (ap (λ x. has_acked_to k.same_id x v m) acked);
@@ -681,7 +702,7 @@ module _ {T ID D : Type 0} (k : Tests T ID D (Option D)) (exact : AreExact k) wh
       at_l : SeesLeader k es t c l
       at_l = rw is_l (leader_seen es leaders t c j l seen.see_leaders at_j)
 
-      ok : broken_rule k (Granted id t c) es ≡ None
+      ok : first_broken k (Granted id t c) es ≡ None
       ok = grant_right es id t c s l at_s at_l ∙ free
 
       in_time : nat_lt (term_after k.rank (events_in k es id)) (k.rank t) ≡ true
@@ -724,7 +745,7 @@ module _ {T ID D : Type 0} (k : Tests T ID D (Option D)) (exact : AreExact k) wh
       → HasSeen k es servers leaders → grant_rule k.rank k.same_id s l id (k.rank t) c ≡ None
       → k.rank t ≤ s.term → new.id ≡ s.id → new.term ≡ s.term → new.voted ≡ k.rank t
       → new.log ≡ s.log → new.durable ≡ s.durable → new.kept ≡ s.kept
-      → (broken_rule k (Granted id t c) es ≡ None)
+      → (first_broken k (Granted id t c) es ≡ None)
       × HasSeen k (Granted id t c ∷ es) (set servers i new) leaders
   late_vote_seen es id t c servers leaders i j s new l at_i is at_j is_l seen free reached same_id term vote log dur kept = (
     ok,
@@ -748,7 +769,7 @@ module _ {T ID D : Type 0} (k : Tests T ID D (Option D)) (exact : AreExact k) wh
       at_l : SeesLeader k es t c l
       at_l = rw is_l (leader_seen es leaders t c j l seen.see_leaders at_j)
 
-      ok : broken_rule k (Granted id t c) es ≡ None
+      ok : first_broken k (Granted id t c) es ≡ None
       ok = grant_right es id t c s l at_s at_l ∙ free
 
       late : nat_lt (term_after k.rank (events_in k es id)) (k.rank t) ≡ false
@@ -757,12 +778,12 @@ module _ {T ID D : Type 0} (k : Tests T ID D (Option D)) (exact : AreExact k) wh
   -- ---- campaigns
 
   pub campaign_twice : (es : List (TraceEvent T ID D)) (t : T) (c : ID) (l : LeaderState T ID D)
-      → SeesLeader k es t c l → broken_rule k (Campaigned c t) es ≡ Some CampaignedTwice
+      → SeesLeader k es t c l → first_broken k (Campaigned c t) es ≡ Some CampaignedTwice
   campaign_twice es t c l leads = rw leads.campaigned refl
 
   pub campaign_right : (es : List (TraceEvent T ID D)) (t : T) (c : ID) (s : ServerState T ID D)
       → SeesServer k (events_in k es c) s → SeesNoLeader k es t c
-      → broken_rule k (Campaigned c t) es ≡ unless (nat_lt s.term (k.rank t)) PassedTerm None
+      → first_broken k (Campaigned c t) es ≡ unless (nat_lt s.term (k.rank t)) PassedTerm None
   campaign_right es t c s sees none = rw (none.campaigned, sees.term) refl
 
   pub campaign_seen : (es : List (TraceEvent T ID D)) (t : T) (c : ID)
@@ -774,11 +795,10 @@ module _ {T ID D : Type 0} (k : Tests T ID D (Option D)) (exact : AreExact k) wh
       → new.id ≡ s.id → new.term ≡ max s.term (k.rank t) → new.voted ≡ k.rank t → new.log ≡ s.log
       → new.durable ≡ s.durable
       → ((r : ℕ) → kept_from 0 new.kept r ≡ kept_after s.kept s.term (length s.log) (k.rank t) r)
-      → lnew.elected ≡ k.quorum_of (effective_config k.config_of k.initial s.log)
-      (is_member k.same_id (c ∷ []))
+      → lnew.elected ≡ tally k k.counting es t s.log (is_member k.same_id (c ∷ []))
       → lnew.acked ≡ []
       → LeaderIs lnew t c (length s.log) s.log (c ∷ []) lnew.elected None
-      → (broken_rule k (Campaigned c t) es ≡ None)
+      → (first_broken k (Campaigned c t) es ≡ None)
       × HasSeen k (Campaigned c t ∷ es) (set servers i new) (lnew ∷ leaders)
   campaign_seen es t c servers leaders i s new lnew at_i is absent seen above same_id term vote log dur kept elected acked same = (
     ok,
@@ -801,8 +821,8 @@ module _ {T ID D : Type 0} (k : Tests T ID D (Option D)) (exact : AreExact k) wh
             distinct = rw same.voters (unfold IsDistinct in (tt, tt));
             own_vote = rw same.voters self_vote;
             elected =
-                (λ q. (votes c ∙ self_vote) q
-                && is_quorum_of_log k (log0 q) (λ v. votes v q))
+                elected_by k exact (Campaigned c t ∷ es) t c s.log (is_member k.same_id (c ∷ [])) log0 votes self_vote
+                ∙ campaign_tally k.counting es t c s.log (is_member k.same_id (c ∷ []))
                 ∙ sym elected;
             acked = λ v m. vote_no_ack k exact (k.same_id c v) t t c c m (events_in k es v) ∙ none.acked v m
                 ∙ sym (ap (λ x. has_acked_to k.same_id x v m) acked);
@@ -820,7 +840,7 @@ module _ {T ID D : Type 0} (k : Tests T ID D (Option D)) (exact : AreExact k) wh
       none : SeesNoLeader k es t c
       none = no_leader_seen es leaders t c seen.see_leaders absent
 
-      ok : broken_rule k (Campaigned c t) es ≡ None
+      ok : first_broken k (Campaigned c t) es ≡ None
       ok =
           let free : unless (nat_lt s.term (k.rank t)) PassedTerm None ≡ None =
           rw (lt-ltb s.term (k.rank t) above) refl in
@@ -914,9 +934,12 @@ module _ {T ID D : Type 0} (k : Tests T ID D (Option D)) (exact : AreExact k) wh
   -- ---- entries that a leader writes
 
   pub not_elected : (es : List (TraceEvent T ID D)) (t : T) (c : ID) → SeesNoLeader k es t c
-      → is_elected k es t c ≡ false
-  not_elected es t c none =
-      rw (none.voted c) refl
+      → is_elected_when k es t c ≡ false
+  not_elected es t c none = go k.counting
+    where
+      go : (w : ConfigsCount) → (tests_by k w).is_elected es t c ≡ false
+      go WhenAppended = rw (none.voted c) refl
+      go WhenApplied = rw (none.voted c) refl
 
   config_test : (holds : D → Bool) → ((d : D) → k.config_of d ≡ config_in holds d)
       → (log : List (Entry T D)) → hold_no_config k log ≡ no_config_in holds log
@@ -932,7 +955,7 @@ module _ {T ID D : Type 0} (k : Tests T ID D (Option D)) (exact : AreExact k) wh
   pub write_right : (es : List (TraceEvent T ID D)) (t : T) (c : ID) (e : Entry T D)
       (l : LeaderState T ID D) (holds : D → Bool) → ((d : D) → k.config_of d ≡ config_in holds d)
       → k.initial ≡ None → SeesLeader k es t c l
-      → broken_rule k (Wrote c t e) es ≡ write_rule k.same_term holds k.intersect l t e
+      → first_broken k (Wrote c t e) es ≡ write_rule k.counting k.same_term holds k.intersect l t e
   write_right es t c e l holds is initial leads =
       rw leads.elected (ap (λ x. unless l.elected NotElected (unless (k.same_term e.term t) OtherTerm x)) proposal)
     where
@@ -955,28 +978,34 @@ module _ {T ID D : Type 0} (k : Tests T ID D (Option D)) (exact : AreExact k) wh
           ∙ (λ q. config_committed (hold_no_config k) (leads.committed q) (leads.leader_log q))
           ∙ tested l.committed l.log
 
-      go : (b : Bool) → proposal_rule k es t c (if b then Some (Some e.content) else None)
+      go : (w : ConfigsCount) (b : Bool) → (tests_by k w).config_rule es t c (if b then Some (Some e.content) else None)
           ≡ (if b then unless (k.intersect (effective_config (config_in holds) None l.log) (Some e.content)) ApartConfigs
           (unless (k.intersect (Some e.content) (Some e.content)) ApartQuorums
-          (unless (config_committed (no_config_in holds) l.committed l.log) EarlyConfig None))
+          (early_rule w (config_committed (no_config_in holds) l.committed l.log)))
           else None)
-      go true =
+      go WhenAppended true =
           λ q. unless (k.intersect (in_effect q) (Some e.content)) ApartConfigs
           (unless (k.intersect (Some e.content) (Some e.content)) ApartQuorums
           (unless (committed q) EarlyConfig None))
-      go false = refl
+      go WhenApplied true =
+          λ q. unless (k.intersect (in_effect q) (Some e.content)) ApartConfigs
+          (unless (k.intersect (Some e.content) (Some e.content)) ApartQuorums None)
+      go WhenAppended false = refl
+      go WhenApplied false = refl
 
-      proposal : proposal_rule k es t c (k.config_of e.content) ≡ config_rule holds k.intersect l e.content
-      proposal = ap (λ o. proposal_rule k es t c o) (is e.content) ∙ go (holds e.content)
+      proposal : (tests_by k k.counting).config_rule es t c (k.config_of e.content)
+          ≡ config_rule k.counting holds k.intersect l e.content
+      proposal =
+          ap (λ o. (tests_by k k.counting).config_rule es t c o) (is e.content) ∙ go k.counting (holds e.content)
 
   pub write_seen : (es : List (TraceEvent T ID D)) (t : T) (c : ID) (e : Entry T D)
       (servers : List (ServerState T ID D)) (leaders : List (LeaderState T ID D)) (j : ℕ) (l lnew : LeaderState T ID D)
       → position (λ (x : LeaderState T ID D). same_leader k x.term x.id t c) leaders ≡ Some j
       → l ≡ get_or leaders j l
-      → HasSeen k es servers leaders → broken_rule k (Wrote c t e) es ≡ None
+      → HasSeen k es servers leaders → first_broken k (Wrote c t e) es ≡ None
       → lnew.acked ≡ l.acked
       → LeaderIs lnew l.term l.id l.start (l.log ++ e ∷ []) l.voters l.elected l.committed
-      → (broken_rule k (Wrote c t e) es ≡ None)
+      → (first_broken k (Wrote c t e) es ≡ None)
       × HasSeen k (Wrote c t e ∷ es) servers (set leaders j lnew)
   write_seen es t c e servers leaders j l lnew at_j is_l seen ok acked same = (
     ok,
@@ -995,7 +1024,9 @@ module _ {T ID D : Type 0} (k : Tests T ID D (Option D)) (exact : AreExact k) wh
             voted = λ v. at_l.voted v ∙ sym (ap (λ x. is_member k.same_id x v) same.voters);
             distinct = rw same.voters at_l.distinct;
             own_vote = rw same.voters at_l.own_vote;
-            elected = at_l.elected ∙ sym same.elected;
+            elected =
+                elected_same k exact es (Wrote c t e ∷ es) t c refl (λ v. refl) (λ p. refl)
+                ∙ at_l.elected ∙ sym same.elected;
             acked = λ v m. at_l.acked v m ∙ sym (ap (λ x. has_acked_to k.same_id x v m) acked);
             committed = at_l.committed ∙ sym same.committed;
             within = rw (same.committed, same.log) (within l.committed at_l.within);
@@ -1044,19 +1075,15 @@ module _ {T ID D : Type 0} (k : Tests T ID D (Option D)) (exact : AreExact k) wh
 
   -- what a commit breaks: a rule of the leader alone, or there is no quorum
   pub commit_right : (es : List (TraceEvent T ID D)) (t : T) (c : ID) (n m : ℕ) (l : LeaderState T ID D)
-      (quorum : Bool) → SeesLeader k es t c l
+      (known follows quorum : Bool) → SeesLeader k es t c l
+      → (k.counting ≡ WhenApplied → may_count_acks k es t c m ≡ known)
+      → (k.counting ≡ WhenApplied → hold_at_most_one k (drop m (take n l.log)) ≡ follows)
       → is_quorum_of_log k (take m l.log) (λ v. has_acked_to k.same_id l.acked v n) ≡ quorum
-      → broken_rule k (Committed c t n m) es
-      ≡ unless l.elected NotElected
-      (unless (nat_lt l.start n) EarlierTerm
-      (unless (nat_le n m) CountedEarly
-      (unless (nat_le m (length l.log)) NotWritten (unless quorum NoQuorum None))))
-  commit_right es t c n m l quorum leads is =
+      → first_broken k (Committed c t n m) es
+      ≡ commit_rule k.counting l n m known follows (unless quorum NoQuorum None)
+  commit_right es t c n m l known follows quorum leads is_known is_alone is =
       λ q. unless (leads.elected q) NotElected
-      (unless (nat_lt (start q) n) EarlierTerm
-      (unless (nat_le n m) CountedEarly
-      (unless (nat_le m (length (leads.leader_log q))) NotWritten
-      (unless (counted q) NoQuorum None))))
+      (unless (nat_lt (start q) n) EarlierTerm (go k.counting refl q))
     where
       start : length (candidate_log_in k es t c) ≡ l.start
       start = ap length leads.candidate_log ∙ length-take-le l.start l.log leads.start
@@ -1065,40 +1092,86 @@ module _ {T ID D : Type 0} (k : Tests T ID D (Option D)) (exact : AreExact k) wh
           ≡ quorum
       counted = (λ q. is_quorum_of_log k (take m (leads.leader_log q)) (λ v. leads.acked v n q)) ∙ is
 
-  pub commit_first : (l : LeaderState T ID D) (n m : ℕ) (r : Rule) (o : Option Rule)
-      → commit_rule l n m ≡ Some r
-      → unless l.elected NotElected
-      (unless (nat_lt l.start n) EarlierTerm
-      (unless (nat_le n m) CountedEarly
-      (unless (nat_le m (length l.log)) NotWritten o))) ≡ Some r
-  commit_first l n m r o e =
-      go l.elected (nat_lt l.start n) (nat_le n m) (nat_le m (length l.log)) e
-    where
-      go : (a b x y : Bool)
-          → unless a NotElected (unless b EarlierTerm (unless x CountedEarly (unless y NotWritten None))) ≡ Some r
-          → unless a NotElected (unless b EarlierTerm (unless x CountedEarly (unless y NotWritten o))) ≡ Some r
-      go true true true true h = absurd (cc)
-      go true true true false h = h
-      go true true false y h = h
-      go true false x y h = h
-      go false b x y h = h
+      go : (w : ConfigsCount) → k.counting ≡ w → (tests_by k w).commit_rule es t c n m
+          ≡ counted_rule w l n m known follows (unless quorum NoQuorum None)
+      go WhenAppended e =
+          λ q. unless (nat_le n m) CountedEarly
+          (unless (nat_le m (length (leads.leader_log q))) NotWritten
+          (unless (counted q) NoQuorum None))
+      go WhenApplied e =
+          λ q. unless (nat_le m n) CountedLate
+          (unless (nat_le n (length (leads.leader_log q))) NotWritten
+          (unless (is_known e q) UnknownConfig
+          (unless (((λ z. hold_at_most_one k (drop m (take n (leads.leader_log z)))) ∙ is_alone e) q) ConfigsFollow
+          (unless (counted q) NoQuorum None))))
 
-  pub commit_then : (l : LeaderState T ID D) (n m : ℕ) (o : Option Rule) → commit_rule l n m ≡ None
-      → unless l.elected NotElected
-      (unless (nat_lt l.start n) EarlierTerm
-      (unless (nat_le n m) CountedEarly
-      (unless (nat_le m (length l.log)) NotWritten o))) ≡ o
-  commit_then l n m o e =
-      go l.elected (nat_lt l.start n) (nat_le n m) (nat_le m (length l.log)) e
+  -- a rule that is broken before the quorum is counted is broken whatever the quorum is
+  pub commit_first : (l : LeaderState T ID D) (n m : ℕ) (known follows : Bool) (r : Rule) (o : Option Rule)
+      → commit_rule k.counting l n m known follows None ≡ Some r
+      → commit_rule k.counting l n m known follows o ≡ Some r
+  commit_first l n m known follows r o e =
+      go l.elected (nat_lt l.start n) e
     where
-      go : (a b x y : Bool)
-          → unless a NotElected (unless b EarlierTerm (unless x CountedEarly (unless y NotWritten None))) ≡ None
-          → unless a NotElected (unless b EarlierTerm (unless x CountedEarly (unless y NotWritten o))) ≡ o
-      go true true true true h = refl
-      go true true true false h = absurd (cc)
-      go true true false y h = absurd (cc)
-      go true false x y h = absurd (cc)
-      go false b x y h = absurd (cc)
+      three : (x y : Bool) → unless x CountedEarly (unless y NotWritten None) ≡ Some r
+          → unless x CountedEarly (unless y NotWritten o) ≡ Some r
+      three true true h = absurd (cc)
+      three true false h = h
+      three false y h = h
+
+      five : (x y z u : Bool)
+          → unless x CountedLate (unless y NotWritten (unless z UnknownConfig (unless u ConfigsFollow None))) ≡ Some r
+          → unless x CountedLate (unless y NotWritten (unless z UnknownConfig (unless u ConfigsFollow o))) ≡ Some r
+      five true true true true h = absurd (cc)
+      five true true true false h = h
+      five true true false u h = h
+      five true false z u h = h
+      five false y z u h = h
+
+      rest : (w : ConfigsCount) → counted_rule w l n m known follows None ≡ Some r
+          → counted_rule w l n m known follows o ≡ Some r
+      rest WhenAppended h = three (nat_le n m) (nat_le m (length l.log)) h
+      rest WhenApplied h = five (nat_le m n) (nat_le n (length l.log)) known follows h
+
+      go : (a b : Bool)
+          → unless a NotElected (unless b EarlierTerm (counted_rule k.counting l n m known follows None)) ≡ Some r
+          → unless a NotElected (unless b EarlierTerm (counted_rule k.counting l n m known follows o)) ≡ Some r
+      go true true h = rest k.counting h
+      go true false h = h
+      go false b h = h
+
+  -- if no such rule is broken, the quorum decides
+  pub commit_then : (l : LeaderState T ID D) (n m : ℕ) (known follows : Bool) (o : Option Rule)
+      → commit_rule k.counting l n m known follows None ≡ None
+      → commit_rule k.counting l n m known follows o ≡ o
+  commit_then l n m known follows o e =
+      go l.elected (nat_lt l.start n) e
+    where
+      three : (x y : Bool) → unless x CountedEarly (unless y NotWritten None) ≡ None
+          → unless x CountedEarly (unless y NotWritten o) ≡ o
+      three true true h = refl
+      three true false h = absurd (cc)
+      three false y h = absurd (cc)
+
+      five : (x y z u : Bool)
+          → unless x CountedLate (unless y NotWritten (unless z UnknownConfig (unless u ConfigsFollow None))) ≡ None
+          → unless x CountedLate (unless y NotWritten (unless z UnknownConfig (unless u ConfigsFollow o))) ≡ o
+      five true true true true h = refl
+      five true true true false h = absurd (cc)
+      five true true false u h = absurd (cc)
+      five true false z u h = absurd (cc)
+      five false y z u h = absurd (cc)
+
+      rest : (w : ConfigsCount) → counted_rule w l n m known follows None ≡ None
+          → counted_rule w l n m known follows o ≡ o
+      rest WhenAppended h = three (nat_le n m) (nat_le m (length l.log)) h
+      rest WhenApplied h = five (nat_le m n) (nat_le n (length l.log)) known follows h
+
+      go : (a b : Bool)
+          → unless a NotElected (unless b EarlierTerm (counted_rule k.counting l n m known follows None)) ≡ None
+          → unless a NotElected (unless b EarlierTerm (counted_rule k.counting l n m known follows o)) ≡ o
+      go true true h = rest k.counting h
+      go true false h = absurd (cc)
+      go false b h = absurd (cc)
 
   -- the first entries of a log that reach further hold what fewer hold
   longer_prefix : (p log : List (Entry T D)) (n m : ℕ) → n ≤ m
@@ -1120,21 +1193,22 @@ module _ {T ID D : Type 0} (k : Tests T ID D (Option D)) (exact : AreExact k) wh
       (servers : List (ServerState T ID D)) (leaders : List (LeaderState T ID D)) (j : ℕ) (l lnew : LeaderState T ID D)
       → position (λ (x : LeaderState T ID D). same_leader k x.term x.id t c) leaders ≡ Some j
       → l ≡ get_or leaders j l
-      → HasSeen k es servers leaders → broken_rule k (Committed c t n m) es ≡ None
+      → HasSeen k es servers leaders → first_broken k (Committed c t n m) es ≡ None
       → n ≤ length l.log
+      → ((u : T) (d : ID) → is_elected_when k (Committed c t n m ∷ es) u d ≡ is_elected_when k es u d)
       → lnew.acked ≡ l.acked
       → LeaderIs lnew l.term l.id l.start l.log l.voters l.elected
       (Some (max (unwrap_or l.committed 0) n))
-      → (broken_rule k (Committed c t n m) es ≡ None)
+      → (first_broken k (Committed c t n m) es ≡ None)
       × HasSeen k (Committed c t n m ∷ es) servers (set leaders j lnew)
-  commit_seen es t c n m servers leaders j l lnew at_j is_l seen ok short acked same = (
+  commit_seen es t c n m servers leaders j l lnew at_j is_l seen ok short stable acked same = (
     ok,
     record {
       allowed = more_allowed k (Committed c t n m) es ok seen.allowed;
       see_servers = seen.see_servers;
       see_leaders =
           see_leader_set k exact es (Committed c t n m ∷ es) leaders j lnew t c at_j place.1 seen.see_leaders
-          (λ u d apart. commit_of_other k exact es t u c d n m apart)
+          (λ u d apart. commit_of_other k exact es t u c d n m apart (stable u d))
           (record {
             campaigned = at_l.campaigned;
             start = rw (same.start, same.log) at_l.start;
@@ -1143,7 +1217,7 @@ module _ {T ID D : Type 0} (k : Tests T ID D (Option D)) (exact : AreExact k) wh
             voted = λ v. at_l.voted v ∙ sym (ap (λ x. is_member k.same_id x v) same.voters);
             distinct = rw same.voters at_l.distinct;
             own_vote = rw same.voters at_l.own_vote;
-            elected = at_l.elected ∙ sym same.elected;
+            elected = stable t c ∙ at_l.elected ∙ sym same.elected;
             acked = λ v i. at_l.acked v i ∙ sym (ap (λ x. has_acked_to k.same_id x v i) acked);
             committed = rw me (ap (λ o. Some (max (unwrap_or o 0) n)) at_l.committed ∙ sym same.committed);
             within = rw (same.committed, same.log) (reach l.committed at_l.within);
@@ -1220,7 +1294,7 @@ module _ {T ID D : Type 0} (k : Tests T ID D (Option D)) (exact : AreExact k) wh
       (leaders : List (LeaderState T ID D)) (id : ID) (t : T) (c : ID) (n : ℕ) (s : ServerState T ID D)
       (l : LeaderState T ID D) → HasSeen k es servers leaders → SeesServer k (events_in k es id) s
       → SeesLeader k es t c l
-      → broken_rule k (Applied id t c n) es ≡ option_or (apply_rule (same_entry k) s l n)
+      → first_broken k (Applied id t c n) es ≡ option_or (apply_rule (same_entry k) s l n)
       (unless (list_any (knows k.rank (same_entry k) (k.rank t) (take n l.log)) leaders) NotCommitted None)
   apply_right es servers leaders id t c n s l seen sees leads =
       (λ q. unless (leads.elected q) NotElected
@@ -1245,8 +1319,8 @@ module _ {T ID D : Type 0} (k : Tests T ID D (Option D)) (exact : AreExact k) wh
 
   pub apply_seen : (es : List (TraceEvent T ID D)) (servers : List (ServerState T ID D))
       (leaders : List (LeaderState T ID D)) (id : ID) (t : T) (c : ID) (n : ℕ)
-      → HasSeen k es servers leaders → broken_rule k (Applied id t c n) es ≡ None
-      → (broken_rule k (Applied id t c n) es ≡ None)
+      → HasSeen k es servers leaders → first_broken k (Applied id t c n) es ≡ None
+      → (first_broken k (Applied id t c n) es ≡ None)
       × HasSeen k (Applied id t c n ∷ es) servers leaders
   apply_seen es servers leaders id t c n seen ok = (
     ok,
@@ -1265,7 +1339,7 @@ module _ {T ID D : Type 0} (k : Tests T ID D (Option D)) (exact : AreExact k) wh
       (leaders : List (LeaderState T ID D)) (i n : ℕ) (s : ServerState T ID D) (r : Rule)
       → HasPlace (λ (x : ServerState T ID D). k.same_id x.id id) id old servers i → s ≡ get_or servers i s
       → HasSeen k es old leaders → restart_rule s n ≡ Some r
-      → (broken_rule k (Restarted id n) es ≡ Some r) × HasSeen k es servers leaders
+      → (first_broken k (Restarted id n) es ≡ Some r) × HasSeen k es servers leaders
   restart_refused es id old servers leaders i n s r place is seen e =
       let now : HasSeen k es servers leaders = see_place es id old servers i leaders place seen in
       let at_s : SeesServer k (events_in k es id) s =
@@ -1279,7 +1353,7 @@ module _ {T ID D : Type 0} (k : Tests T ID D (Option D)) (exact : AreExact k) wh
       → position (λ (x : LeaderState T ID D). same_leader k x.term x.id t c) leaders ≡ Some j
       → l ≡ get_or leaders j l
       → HasSeen k es old leaders → append_rule (same_entry k) s l (k.rank t) n sent ≡ Some r
-      → (broken_rule k (Appended id t c n sent) es ≡ Some r) × HasSeen k es servers leaders
+      → (first_broken k (Appended id t c n sent) es ≡ Some r) × HasSeen k es servers leaders
   append_refused es id t c n sent old servers leaders i j s l r place is at_j is_l seen e =
       let now : HasSeen k es servers leaders = see_place es id old servers i leaders place seen in
       let at_s : SeesServer k (events_in k es id) s =
@@ -1294,7 +1368,7 @@ module _ {T ID D : Type 0} (k : Tests T ID D (Option D)) (exact : AreExact k) wh
       → position (λ (x : LeaderState T ID D). same_leader k x.term x.id t c) leaders ≡ Some j
       → l ≡ get_or leaders j l
       → HasSeen k es old leaders → ack_rule (same_entry k) s l (k.rank t) n ≡ Some r
-      → (broken_rule k (Acked id t c n) es ≡ Some r) × HasSeen k es servers leaders
+      → (first_broken k (Acked id t c n) es ≡ Some r) × HasSeen k es servers leaders
   ack_refused es id t c n old servers leaders i j s l r place is at_j is_l seen e =
       let now : HasSeen k es servers leaders = see_place es id old servers i leaders place seen in
       let at_s : SeesServer k (events_in k es id) s =
@@ -1309,7 +1383,7 @@ module _ {T ID D : Type 0} (k : Tests T ID D (Option D)) (exact : AreExact k) wh
       → position (λ (x : LeaderState T ID D). same_leader k x.term x.id t c) leaders ≡ Some j
       → l ≡ get_or leaders j l
       → HasSeen k es old leaders → grant_rule k.rank k.same_id s l id (k.rank t) c ≡ Some r
-      → (broken_rule k (Granted id t c) es ≡ Some r) × HasSeen k es servers leaders
+      → (first_broken k (Granted id t c) es ≡ Some r) × HasSeen k es servers leaders
   grant_refused es id t c old servers leaders i j s l r place is at_j is_l seen e =
       let now : HasSeen k es servers leaders = see_place es id old servers i leaders place seen in
       let at_s : SeesServer k (events_in k es id) s =
@@ -1322,7 +1396,7 @@ module _ {T ID D : Type 0} (k : Tests T ID D (Option D)) (exact : AreExact k) wh
       → HasPlace (λ (x : ServerState T ID D). k.same_id x.id c) c old servers i → s ≡ get_or servers i s
       → position (λ (x : LeaderState T ID D). same_leader k x.term x.id t c) leaders ≡ None
       → HasSeen k es old leaders → k.rank t ≤ s.term
-      → (broken_rule k (Campaigned c t) es ≡ Some PassedTerm) × HasSeen k es servers leaders
+      → (first_broken k (Campaigned c t) es ≡ Some PassedTerm) × HasSeen k es servers leaders
   campaign_refused es t c old servers leaders i s place is absent seen below =
       let now : HasSeen k es servers leaders = see_place es c old servers i leaders place seen in
       let at_s : SeesServer k (events_in k es c) s =
@@ -1336,7 +1410,7 @@ module _ {T ID D : Type 0} (k : Tests T ID D (Option D)) (exact : AreExact k) wh
       (servers : List (ServerState T ID D)) (leaders : List (LeaderState T ID D)) (j : ℕ)
       → position (λ (x : LeaderState T ID D). same_leader k x.term x.id t c) leaders ≡ Some j
       → HasSeen k es servers leaders
-      → (broken_rule k (Campaigned c t) es ≡ Some CampaignedTwice) × HasSeen k es servers leaders
+      → (first_broken k (Campaigned c t) es ≡ Some CampaignedTwice) × HasSeen k es servers leaders
   campaign_again es t c servers leaders j at_j seen =
       let found : (l : LeaderState T ID D) × (find_leader k leaders t c ≡ Some l) =
       found_some (λ (x : LeaderState T ID D). same_leader k x.term x.id t c) leaders j at_j in
@@ -1348,7 +1422,7 @@ module _ {T ID D : Type 0} (k : Tests T ID D (Option D)) (exact : AreExact k) wh
   pub no_leader : (es : List (TraceEvent T ID D)) (t : T) (c : ID) (servers : List (ServerState T ID D))
       (leaders : List (LeaderState T ID D))
       → position (λ (x : LeaderState T ID D). same_leader k x.term x.id t c) leaders ≡ None
-      → HasSeen k es servers leaders → (is_elected k es t c ≡ false)
+      → HasSeen k es servers leaders → (is_elected_when k es t c ≡ false)
       × (has_campaigned k t c es ≡ false)
       × ((v : ID) (n : ℕ) → has_acked k t c n (events_in k es v) ≡ false)
   no_leader es t c servers leaders absent seen =

@@ -16,6 +16,7 @@ use Rattle.std.specs.Prelude.{
   not,
   ◌||◌,
   ◌&&◌,
+  nat_eq,
   nat_le,
   nat_lt,
   min,
@@ -40,7 +41,7 @@ use Rattle.std.specs.List.{find, position, position_or_len, IsDistinct, list_any
 use Rattle.std.specs.Option.{unwrap_or, option_or}
 use Rattle.std.specs.Set.{is_member}
 use Rattle.std.proofs.Common.{refl, sym, ap, ◌∙◌, subst, inl, inr, arith}
-use Rattle.std.proofs.lemmas.Bool.{cases_eq, cases_lt, le-leb, leb-true}
+use Rattle.std.proofs.lemmas.Bool.{cases_eq, cases_lt, le-leb, le-ltb, leb-true}
 use Rattle.std.proofs.lemmas.List.{
   get_or_append_left,
   get_or_default,
@@ -71,13 +72,20 @@ use Rattle.raft_safety.specs.Trace.{
   Applied,
   events_in,
   has_campaigned,
-  is_elected,
   same_entry,
   same_leader,
+  hold_no_config,
+  is_earlier,
+  is_known_by,
   is_quorum_of_log,
   unless,
-  broken_rule,
 }
+use Rattle.raft_safety.specs.Counted.{first_broken, is_elected_when}
+use Rattle.raft_safety.specs.AppliedTrace.{hold_at_most_one, is_shorter, may_count_acks, some_upto}
+use Rattle.raft_safety.specs.Inner.Known.{CommitState, SeesKnownBy, commit_in, elected_in}
+use Rattle.raft_safety.specs.declared.checker.counting.ConfigsCount.{ConfigsCount}
+use Rattle.raft_safety.specs.declared.checker.counting.ConfigsCount.TheVariants.{WhenAppended, WhenApplied}
+use Rattle.raft_safety.specs.declared.checker.known.Commit.{Commit}
 use Rattle.raft_safety.specs.Inner.CheckerState.{
   ServerState,
   LeaderState,
@@ -85,6 +93,7 @@ use Rattle.raft_safety.specs.Inner.CheckerState.{
   no_config_in,
   write_rule,
   commit_rule,
+  counted_rule,
   append_rule,
   ack_rule,
   restart_rule,
@@ -105,13 +114,14 @@ use Rattle.raft_safety.specs.Inner.Kept.{
   IsPushed,
   Parts,
   leader_in,
+  commits_in,
   leaders_in,
   server_in,
   servers_in,
 }
 use Rattle.raft_safety.specs.Inner.Logs.{AllLogs, AreLogs, AreWithout, HasConfig, IsChild, IsExact, config_at, log_at, no_logs}
 use Rattle.raft_safety.specs.Inner.Places.{first_of, place_of}
-use Rattle.raft_safety.specs.Inner.Seen.{SeesServer, SeesLeader}
+use Rattle.raft_safety.specs.Inner.Seen.{SeesServer, SeesLeader, tally}
 use Rattle.raft_safety.specs.Checker.{AgreeOn, HasSeen, Keeps}
 use Rattle.raft_safety.specs.declared.rule.Rule.TheVariants.{
   NoCampaign,
@@ -122,6 +132,9 @@ use Rattle.raft_safety.specs.declared.rule.Rule.TheVariants.{
   CampaignedTwice,
   EarlierTerm,
   CountedEarly,
+  CountedLate,
+  UnknownConfig,
+  ConfigsFollow,
   NotWritten,
 }
 use Rattle.raft_safety.specs.declared.rule.Rule.{Rule}
@@ -222,6 +235,17 @@ module _ {T N D : Type 0} (old new : AllLogs T D) where
         committed = x.committed;
       } ∷ rest q
 
+module _ {T D : Type 0} (old new : AllLogs T D) where
+  same_commits : (xs : List Commit)
+      → ((i : ℕ) (c : Commit) → i < length xs → c ≡ get_or xs i c → log_at new c.log ≡ log_at old c.log)
+      → map (commit_in new) xs ≡ map (commit_in old) xs
+  same_commits [] same = refl
+  same_commits (x ∷ xs) same =
+      let here : log_at new x.log ≡ log_at old x.log = same 0 x (omega arith) refl in
+      let rest : map (commit_in new) xs ≡ map (commit_in old) xs =
+      same_commits xs (λ i c h e. same (suc i) c (omega (arith, h)) e) in
+      λ q. record { rank = x.rank; counted_at = x.counted_at; entries = here q } ∷ rest q
+
 -- ---- which contents hold a config
 
 module _ {D : Type 0} (holds : D → Bool) where
@@ -240,29 +264,34 @@ module _ {D : Type 0} (holds : D → Bool) where
 module _ {T N D : Type 0} where
   -- other servers, another server or another leader
   abbrev pub with_servers : Parts T N D → List (Server N) → Parts T N D
-  with_servers p new = record { logs = p.logs; servers = new; leaders = p.leaders; places = p.places; committed = p.committed }
+  with_servers p new = record { logs = p.logs; servers = new; leaders = p.leaders; places = p.places; committed = p.committed; commits = p.commits }
 
   abbrev pub with_server : Parts T N D → ℕ → Server N → Parts T N D
   with_server p i s = with_servers p (set p.servers i s)
 
   abbrev pub with_leaders : Parts T N D → List (Leader T N) → Parts T N D
-  with_leaders p new = record { logs = p.logs; servers = p.servers; leaders = new; places = p.places; committed = p.committed }
+  with_leaders p new = record { logs = p.logs; servers = p.servers; leaders = new; places = p.places; committed = p.committed; commits = p.commits }
 
   abbrev pub with_leader : Parts T N D → ℕ → Leader T N → Parts T N D
   with_leader p j l = with_leaders p (set p.leaders j l)
 
   -- another number of entries such that no leader has committed more
   abbrev pub with_committed : Parts T N D → ℕ → Parts T N D
-  with_committed p n = record { logs = p.logs; servers = p.servers; leaders = p.leaders; places = p.places; committed = n }
+  with_committed p n = record { logs = p.logs; servers = p.servers; leaders = p.leaders; places = p.places; committed = n; commits = p.commits }
+
+  -- other commits by which configs are known
+  abbrev pub with_commits : Parts T N D → List Commit → Parts T N D
+  with_commits p new = record { logs = p.logs; servers = p.servers; leaders = p.leaders; places = p.places; committed = p.committed; commits = new }
 
   abbrev pub with_places : Parts T N D → List (ℕ × (ℕ × ℕ)) → Parts T N D
-  with_places p new = record { logs = p.logs; servers = p.servers; leaders = p.leaders; places = new; committed = p.committed }
+  with_places p new = record { logs = p.logs; servers = p.servers; leaders = p.leaders; places = new; committed = p.committed; commits = p.commits }
 
   have_server : (p : Parts T N D) (i : ℕ) (new : Server N) → HaveLogs p → i < length p.servers
       → new.log < length p.logs.logs → HaveLogs (with_server p i new)
   have_server p i new have at within = record {
     of_servers = λ j s h e. go j s (cases_eq j i) h e;
     of_leaders = have.of_leaders;
+    of_commits = have.of_commits;
   }
     where
       go : (j : ℕ) (s : Server N) → (j ≡ i) ⊎ (j ≢ i) → j < length (set p.servers i new)
@@ -279,6 +308,7 @@ module _ {T N D : Type 0} where
   have_leader p i new have at within = record {
     of_servers = have.of_servers;
     of_leaders = λ j l h e. go j l (cases_eq j i) h e;
+    of_commits = have.of_commits;
   }
     where
       go : (j : ℕ) (l : Leader T N) → (j ≡ i) ⊎ (j ≢ i) → j < length (set p.leaders i new)
@@ -295,6 +325,7 @@ module _ {T N D : Type 0} where
   have_more p new have within = record {
     of_servers = have.of_servers;
     of_leaders = go;
+    of_commits = have.of_commits;
   }
     where
       go : (j : ℕ) (l : Leader T N) → j < length (new ∷ p.leaders) → l ≡ get_or (new ∷ p.leaders) j l
@@ -335,15 +366,17 @@ module _ {T ID D : Type 0} (k : Tests T ID D (Option D)) where
   no_entry d (suc i) = tt
 
   pub starts : k.intersect k.initial k.initial ≡ true
-      → Keeps k [] (record { logs = no_logs; servers = []; leaders = []; places = []; committed = 0 })
+      → Keeps k [] (record { logs = no_logs; servers = []; leaders = []; places = []; committed = 0; commits = [] })
   starts intersect = record {
     are_logs = no_logs_are (λ d. is_some (k.config_of d)) T;
     have_logs = record {
       of_servers = λ i s h e. absurd (omega (arith, h));
       of_leaders = λ i l h e. absurd (omega (arith, h));
+      of_commits = λ i c h e. absurd (omega (arith, h));
     };
     placed = λ i l h e. absurd (omega (arith, h));
     bounded = λ i n l h e q. absurd (omega (arith, h));
+    known = nothing k.counting;
     unused = λ d. (λ without. tt, λ u i h. no_entry d i);
     seen = record {
       allowed = intersect;
@@ -359,6 +392,10 @@ module _ {T ID D : Type 0} (k : Tests T ID D (Option D)) where
       see_commits = λ r p. refl;
     };
   }
+    where
+      nothing : (w : ConfigsCount) → SeesKnownBy k w [] []
+      nothing WhenAppended = tt
+      nothing WhenApplied = λ t a p. refl
 
 module _ {T ID D : Type 0} (k : Tests T ID D (Option D)) (exact : AreExact k) where
   pub exact_entries : IsExact (same_entry k)
@@ -407,6 +444,7 @@ module _ {T ID D : Type 0} (k : Tests T ID D (Option D)) (exact : AreExact k) wh
   have_at p id new i some have at = record {
     of_servers = go at.1;
     of_leaders = have.of_leaders;
+    of_commits = have.of_commits;
   }
     where
       go : (new ≡ p.servers) ⊎ IsPushed (is_server id) id p.servers new
@@ -437,6 +475,7 @@ module _ {T ID D : Type 0} (k : Tests T ID D (Option D)) (exact : AreExact k) wh
     have_logs = have_at p id new i keeps.are_logs.some keeps.have_logs at;
     placed = keeps.placed;
     bounded = keeps.bounded;
+    known = keeps.known;
     unused = keeps.unused;
     seen = see_place k exact es id (servers_in p) (map (server_in p.logs) new) i (leaders_in p)
         (at_place p id new i keeps.are_logs.empty at) keeps.seen;
@@ -471,12 +510,24 @@ module _ {T ID D : Type 0} (k : Tests T ID D (Option D)) (exact : AreExact k) wh
 
   -- ---- what is kept after a change
 
+  -- an event that is no commit makes nothing known
+  pub quiet : (es new : List (TraceEvent T ID D)) (commits : List (CommitState T D))
+      → ((t : T) (a : ℕ) (p : List (Entry T D))
+      → is_known_by k (is_shorter k t a) p new ≡ is_known_by k (is_shorter k t a) p es)
+      → SeesKnownBy k k.counting es commits → SeesKnownBy k k.counting new commits
+  quiet es new commits same = go k.counting
+    where
+      go : (w : ConfigsCount) → SeesKnownBy k w es commits → SeesKnownBy k w new commits
+      go WhenAppended h = tt
+      go WhenApplied h = λ t a p. same t a p ∙ h t a p
+
   keeps_server : (es : List (TraceEvent T ID D)) (p : Parts T ID D) (i : ℕ) (new : Server ID)
       → i < length p.servers → new.log < length p.logs.logs
       → HasSeen k es (set (servers_in p) i (server_in p.logs new)) (leaders_in p)
-      → ((d : D) → AgreeOn k d es p)
+      → ((d : D) → AgreeOn k d es p) → SeesKnownBy k k.counting es (commits_in p)
       → (old : List (TraceEvent T ID D)) → Keeps k old p → Keeps k es (with_server p i new)
-  keeps_server es p i new at within seen unused old keeps = record {
+  keeps_server es p i new at within seen unused known old keeps = record {
+    known = known;
     are_logs = keeps.are_logs;
     have_logs = have_server p i new keeps.have_logs at within;
     placed = keeps.placed;
@@ -490,11 +541,35 @@ module _ {T ID D : Type 0} (k : Tests T ID D (Option D)) (exact : AreExact k) wh
       → j < length p.leaders → l ≡ get_or p.leaders j l → new.term ≡ l.term → new.log < length p.logs.logs
       → HasSeen k es (servers_in p) (set (leaders_in p) j (leader_in p.logs new))
       → ((d : D) → AgreeOn k d es p) → AreBounded most (set p.leaders j new)
+      → SeesKnownBy k k.counting es (commits_in p)
       → (old : List (TraceEvent T ID D)) → Keeps k old p → Keeps k es (with_committed (with_leader p j new) most)
-  keeps_leader es p j most l new at is same within seen unused bounded old keeps =
+  keeps_leader es p j most l new at is same within seen unused bounded known old keeps =
       let have : HaveLogs (with_leader p j new) = have_leader p j new keeps.have_logs at within in record {
         are_logs = keeps.are_logs;
-        have_logs = record { of_servers = have.of_servers; of_leaders = have.of_leaders };
+        known = known;
+        have_logs = record { of_servers = have.of_servers; of_leaders = have.of_leaders; of_commits = have.of_commits };
+        placed = placed_set k.rank p.places p.leaders j l new at is same keeps.placed;
+        bounded = bounded;
+        unused = unused;
+        seen = subst (λ (l : List (LeaderState T ID D)). HasSeen k es (servers_in p) l)
+            (sym (map-set (leader_in p.logs) p.leaders j new)) seen;
+      }
+
+  -- a leader is replaced, and commits are noted
+  keeps_commits : (es : List (TraceEvent T ID D)) (p : Parts T ID D) (j most : ℕ) (commits : List Commit)
+      (l new : Leader T ID)
+      → j < length p.leaders → l ≡ get_or p.leaders j l → new.term ≡ l.term → new.log < length p.logs.logs
+      → HasSeen k es (servers_in p) (set (leaders_in p) j (leader_in p.logs new))
+      → ((d : D) → AgreeOn k d es p) → AreBounded most (set p.leaders j new)
+      → ((i : ℕ) (x : Commit) → i < length commits → x ≡ get_or commits i x → x.log < length p.logs.logs)
+      → SeesKnownBy k k.counting es (map (commit_in p.logs) commits)
+      → (old : List (TraceEvent T ID D)) → Keeps k old p
+      → Keeps k es (with_commits (with_committed (with_leader p j new) most) commits)
+  keeps_commits es p j most commits l new at is same within seen unused bounded have_commits known old keeps =
+      let have : HaveLogs (with_leader p j new) = have_leader p j new keeps.have_logs at within in record {
+        are_logs = keeps.are_logs;
+        known = known;
+        have_logs = record { of_servers = have.of_servers; of_leaders = have.of_leaders; of_commits = have_commits };
         placed = placed_set k.rank p.places p.leaders j l new at is same keeps.placed;
         bounded = bounded;
         unused = unused;
@@ -516,7 +591,7 @@ module _ {T ID D : Type 0} (k : Tests T ID D (Option D)) (exact : AreExact k) wh
       → new.terms.term ≡ s.terms.term
       → ((r : ℕ) → kept_from 0 new.terms.kept r ≡ min (kept_from 0 s.terms.kept r) n)
       → new ≡ record s { terms = new.terms; log = log; durable = min s.durable n }
-      → (broken_rule k (Restarted id n) es ≡ None) × Keeps k (Restarted id n ∷ es) (with_server p i new)
+      → (first_broken k (Restarted id n) es ≡ None) × Keeps k (Restarted id n ∷ es) (with_server p i new)
   restart_done es id p i n s0 s new at is0 is keeps free log is_log earlier term kept rest =
       let new_log : new.log ≡ log = ap (λ (x : Server ID). x.log) rest in
       let within : i < length p.servers = within_of (is_server id) p.servers i s at in
@@ -526,13 +601,16 @@ module _ {T ID D : Type 0} (k : Tests T ID D (Option D)) (exact : AreExact k) wh
       (server_place p id i at) (item_map (server_in p.logs) p.servers i s is) keeps.seen
       (subst (λ (x : Server ID). restart_rule (server_in p.logs x) n ≡ None) one free)
       (ap (λ (x : Server ID). x.id) rest) term (ap (λ (x : Server ID). x.voted) rest)
-      (ap (log_at p.logs) new_log ∙ is_log) (ap (λ (x : Server ID). x.durable) rest) kept in
-      (done.0, keeps_server (Restarted id n ∷ es) p i new within (omega (arith, old_log, earlier, new_log)) done.1 keeps.unused es keeps)
+      (ap (log_at p.logs) new_log ∙ is_log) (ap (λ (x : Server ID). x.durable) rest) kept in (
+        done.0,
+        keeps_server (Restarted id n ∷ es) p i new within (omega (arith, old_log, earlier, new_log)) done.1 keeps.unused
+            (quiet es (Restarted id n ∷ es) (commits_in p) (λ u a x. refl) keeps.known) es keeps,
+      )
 
   pub restart_refused : (es : List (TraceEvent T ID D)) (id : ID) (p : Parts T ID D) (i n : ℕ)
       (s : Server ID) (r : Rule) → position (is_server id) p.servers ≡ Some i
       → s ≡ get_or p.servers i s → Keeps k es p → restart_rule (server_in p.logs s) n ≡ Some r
-      → (broken_rule k (Restarted id n) es ≡ Some r) × Keeps k es p
+      → (first_broken k (Restarted id n) es ≡ Some r) × Keeps k es p
   restart_refused es id p i n s r at is keeps broken =
       (restart_right k exact es id (server_in p.logs s) n (sees_server_at es p id i s at is keeps) ∙ broken, keeps)
 
@@ -543,7 +621,7 @@ module _ {T ID D : Type 0} (k : Tests T ID D (Option D)) (exact : AreExact k) wh
       → position (is_server id) p.servers ≡ Some i → s ≡ get_or p.servers i s
       → position (is_leader t c) p.leaders ≡ Some j → l ≡ get_or p.leaders j l → Keeps k es p
       → append_rule (same_entry k) (server_in p.logs s) (leader_in p.logs l) (k.rank t) n sent ≡ Some r
-      → (broken_rule k (Appended id t c n sent) es ≡ Some r) × Keeps k es p
+      → (first_broken k (Appended id t c n sent) es ≡ Some r) × Keeps k es p
   append_refused es id t c n sent p i j s l r at is at_j is_l keeps broken = (
     append_right k exact es id t c n sent (server_in p.logs s) (leader_in p.logs l)
         (sees_server_at es p id i s at is keeps) (sees_leader_at es p t c j l at_j is_l keeps) ∙ broken,
@@ -566,7 +644,7 @@ module _ {T ID D : Type 0} (k : Tests T ID D (Option D)) (exact : AreExact k) wh
       → ((r : ℕ) → kept_from 0 new.terms.kept r
       ≡ min (kept_after s.terms.kept s.terms.term (length (log_at p.logs s.log)) (k.rank t) r) same)
       → new ≡ record s { terms = new.terms; log = log; durable = min s.durable same }
-      → (broken_rule k (Appended id t c n sent) es ≡ None)
+      → (first_broken k (Appended id t c n sent) es ≡ None)
       × Keeps k (Appended id t c n sent ∷ es) (with_server p i new)
   append_done es id t c n same sent p i j s0 s new l0 l at is0 is at_j is_l0 is_l keeps free is_same log is_log earlier term
       kept rest =
@@ -597,7 +675,7 @@ module _ {T ID D : Type 0} (k : Tests T ID D (Option D)) (exact : AreExact k) wh
                 (keeps.unused d).0 without,
               ),
               λ none. (keeps.unused d).1 none.1,
-            )) es keeps,
+            )) (quiet es (Appended id t c n sent ∷ es) (commits_in p) (λ u a x. refl) keeps.known) es keeps,
       )
     where
       go : (log ≤ s.log) ⊎ (log ≤ l.log) → i < length p.servers → j < length p.leaders
@@ -666,7 +744,7 @@ module _ {T ID D : Type 0} (k : Tests T ID D (Option D)) (exact : AreExact k) wh
   same_server es p id i s new at is keeps rest =
       keeps_server es p i new within
       (rw (ap (λ (x : Server ID). x.log) rest) (log_of_server es p i s keeps within is))
-      (subst (λ (x : List (ServerState T ID D)). HasSeen k es x (leaders_in p)) (sym back) keeps.seen) keeps.unused es keeps
+      (subst (λ (x : List (ServerState T ID D)). HasSeen k es x (leaders_in p)) (sym back) keeps.seen) keeps.unused keeps.known es keeps
     where
       within : i < length p.servers
       within = within_of (is_server id) p.servers i s at
@@ -688,7 +766,7 @@ module _ {T ID D : Type 0} (k : Tests T ID D (Option D)) (exact : AreExact k) wh
   same_leader_again es p t c j l new at is keeps acked same log =
       keeps_leader es p j p.committed l new within is same.term (rw log (keeps.have_logs.of_leaders j l within is))
       (subst (λ (x : List (LeaderState T ID D)). HasSeen k es (servers_in p) x) (sym back) keeps.seen) keeps.unused
-      (bounded_same p.committed p.leaders j l new within is same.committed keeps.bounded) es keeps
+      (bounded_same p.committed p.leaders j l new within is same.committed keeps.bounded) keeps.known es keeps
     where
       within : j < length p.leaders
       within = within_of (is_leader t c) p.leaders j l at
@@ -714,39 +792,39 @@ module _ {T ID D : Type 0} (k : Tests T ID D (Option D)) (exact : AreExact k) wh
 
   pub unled : (es : List (TraceEvent T ID D)) (t : T) (c : ID) (p : Parts T ID D)
       → position (is_leader t c) p.leaders ≡ None → Keeps k es p
-      → (is_elected k es t c ≡ false) × (has_campaigned k t c es ≡ false)
+      → (is_elected_when k es t c ≡ false) × (has_campaigned k t c es ≡ false)
   unled es t c p absent keeps =
       let none = no_leader k exact es t c (servers_in p) (leaders_in p) (leader_place_in p t c None absent) keeps.seen in
       (none.0, none.1)
 
   pub append_unled : (es : List (TraceEvent T ID D)) (id : ID) (t : T) (c : ID) (n : ℕ)
       (sent : List (Entry T D)) (p : Parts T ID D) → position (is_leader t c) p.leaders ≡ None
-      → Keeps k es p → (broken_rule k (Appended id t c n sent) es ≡ Some NotElected) × Keeps k es p
+      → Keeps k es p → (first_broken k (Appended id t c n sent) es ≡ Some NotElected) × Keeps k es p
   append_unled es id t c n sent p absent keeps = let none = unled es t c p absent keeps in (rw none.0 refl, keeps)
 
   pub ack_unled : (es : List (TraceEvent T ID D)) (id : ID) (t : T) (c : ID) (n : ℕ) (p : Parts T ID D)
       → position (is_leader t c) p.leaders ≡ None
-      → Keeps k es p → (broken_rule k (Acked id t c n) es ≡ Some NotElected) × Keeps k es p
+      → Keeps k es p → (first_broken k (Acked id t c n) es ≡ Some NotElected) × Keeps k es p
   ack_unled es id t c n p absent keeps = let none = unled es t c p absent keeps in (rw none.0 refl, keeps)
 
   pub grant_unled : (es : List (TraceEvent T ID D)) (id : ID) (t : T) (c : ID) (p : Parts T ID D)
       → position (is_leader t c) p.leaders ≡ None
-      → Keeps k es p → (broken_rule k (Granted id t c) es ≡ Some NoCampaign) × Keeps k es p
+      → Keeps k es p → (first_broken k (Granted id t c) es ≡ Some NoCampaign) × Keeps k es p
   grant_unled es id t c p absent keeps = let none = unled es t c p absent keeps in (rw none.1 refl, keeps)
 
   pub write_unled : (es : List (TraceEvent T ID D)) (t : T) (c : ID) (e : Entry T D) (p : Parts T ID D)
       → position (is_leader t c) p.leaders ≡ None
-      → Keeps k es p → (broken_rule k (Wrote c t e) es ≡ Some NotElected) × Keeps k es p
+      → Keeps k es p → (first_broken k (Wrote c t e) es ≡ Some NotElected) × Keeps k es p
   write_unled es t c e p absent keeps = let none = unled es t c p absent keeps in (rw none.0 refl, keeps)
 
   pub commit_unled : (es : List (TraceEvent T ID D)) (t : T) (c : ID) (n m : ℕ) (p : Parts T ID D)
       → position (is_leader t c) p.leaders ≡ None
-      → Keeps k es p → (broken_rule k (Committed c t n m) es ≡ Some NotElected) × Keeps k es p
+      → Keeps k es p → (first_broken k (Committed c t n m) es ≡ Some NotElected) × Keeps k es p
   commit_unled es t c n m p absent keeps = let none = unled es t c p absent keeps in (rw none.0 refl, keeps)
 
   pub apply_unled : (es : List (TraceEvent T ID D)) (id : ID) (t : T) (c : ID) (n : ℕ) (p : Parts T ID D)
       → position (is_leader t c) p.leaders ≡ None
-      → Keeps k es p → (broken_rule k (Applied id t c n) es ≡ Some NotElected) × Keeps k es p
+      → Keeps k es p → (first_broken k (Applied id t c n) es ≡ Some NotElected) × Keeps k es p
   apply_unled es id t c n p absent keeps = let none = unled es t c p absent keeps in (rw none.0 refl, keeps)
 
   -- ---- acknowledgements
@@ -756,7 +834,7 @@ module _ {T ID D : Type 0} (k : Tests T ID D (Option D)) (exact : AreExact k) wh
       → position (is_server id) p.servers ≡ Some i → s ≡ get_or p.servers i s
       → position (is_leader t c) p.leaders ≡ Some j → l ≡ get_or p.leaders j l → Keeps k es p
       → ack_rule (same_entry k) (server_in p.logs s) (leader_in p.logs l) (k.rank t) n ≡ Some r
-      → (broken_rule k (Acked id t c n) es ≡ Some r) × Keeps k es p
+      → (first_broken k (Acked id t c n) es ≡ Some r) × Keeps k es p
   ack_refused es id t c n p i j s l r at is at_j is_l keeps broken = (
     ack_right k exact es id t c n (server_in p.logs s) (leader_in p.logs l)
         (sees_server_at es p id i s at is keeps) (sees_leader_at es p t c j l at_j is_l keeps) ∙ broken,
@@ -769,9 +847,11 @@ module _ {T ID D : Type 0} (k : Tests T ID D (Option D)) (exact : AreExact k) wh
       → new.log < length p.logs.logs → lnew.log < length p.logs.logs
       → HasSeen k es (set (servers_in p) i (server_in p.logs new)) (set (leaders_in p) j (leader_in p.logs lnew))
       → ((d : D) → AgreeOn k d es p) → lnew.committed ≡ l.committed
+      → SeesKnownBy k k.counting es (commits_in p)
       → (old : List (TraceEvent T ID D)) → Keeps k old p → Keeps k es (with_leader (with_server p i new) j lnew)
-  keeps_both es p i j new l lnew at at_j is same within within_j seen unused commits old keeps = record {
+  keeps_both es p i j new l lnew at at_j is same within within_j seen unused commits known old keeps = record {
     are_logs = keeps.are_logs;
+    known = known;
     placed = placed_set k.rank p.places p.leaders j l lnew at_j is same keeps.placed;
     bounded = bounded_same p.committed p.leaders j l lnew at_j is commits keeps.bounded;
     unused = unused;
@@ -793,7 +873,7 @@ module _ {T ID D : Type 0} (k : Tests T ID D (Option D)) (exact : AreExact k) wh
       → ((v : ID) (m : ℕ) → has_acked_to k.same_id lnew.acked.items v m
       ≡ (has_acked_to k.same_id l.acked.items v m || (k.same_id id v && nat_le m n)))
       → lnew ≡ record l { acked = lnew.acked }
-      → (broken_rule k (Acked id t c n) es ≡ None)
+      → (first_broken k (Acked id t c n) es ≡ None)
       × Keeps k (Acked id t c n ∷ es) (with_leader (with_server p i new) j lnew)
   ack_done es id t c n p i j s0 s new l0 l lnew at is0 is at_j is_l0 is_l keeps free rest acked same =
       let within : i < length p.servers = within_of (is_server id) p.servers i s at in
@@ -815,7 +895,8 @@ module _ {T ID D : Type 0} (k : Tests T ID D (Option D)) (exact : AreExact k) wh
         keeps_both (Acked id t c n ∷ es) p i j new l lnew within within_j is_l (ap (λ (x : Leader T ID). x.term) same)
             (rw (ap (λ (x : Server ID). x.log) rest) (keeps.have_logs.of_servers i s within is))
             (rw (ap (λ (x : Leader T ID). x.log) same) (keeps.have_logs.of_leaders j l within_j is_l))
-            done.1 keeps.unused (ap (λ (x : Leader T ID). x.committed) same) es keeps,
+            done.1 keeps.unused (ap (λ (x : Leader T ID). x.committed) same)
+            (quiet es (Acked id t c n ∷ es) (commits_in p) (λ u a x. refl) keeps.known) es keeps,
       )
 
   -- ---- votes
@@ -825,7 +906,7 @@ module _ {T ID D : Type 0} (k : Tests T ID D (Option D)) (exact : AreExact k) wh
       → position (is_server id) p.servers ≡ Some i → s ≡ get_or p.servers i s
       → position (is_leader t c) p.leaders ≡ Some j → l ≡ get_or p.leaders j l → Keeps k es p
       → grant_rule k.rank k.same_id (server_in p.logs s) (leader_in p.logs l) id (k.rank t) c ≡ Some r
-      → (broken_rule k (Granted id t c) es ≡ Some r) × Keeps k es p
+      → (first_broken k (Granted id t c) es ≡ Some r) × Keeps k es p
   grant_refused es id t c p i j s l r at is at_j is_l keeps broken = (
     grant_right k exact es id t c (server_in p.logs s) (leader_in p.logs l)
         (sees_server_at es p id i s at is keeps) (sees_leader_at es p t c j l at_j is_l keeps) ∙ broken,
@@ -844,8 +925,27 @@ module _ {T ID D : Type 0} (k : Tests T ID D (Option D)) (exact : AreExact k) wh
       (subst (λ (x : Leader T ID). grant_rule k.rank k.same_id (server_in p.logs s0) (leader_in p.logs x) id (k.rank t) c ≡ None)
       (same_item p.leaders j l0 l within_j is_l0 is_l) free)
 
+  -- what is known by the events is known by the commits that are kept
+  pub tally_known : (w : ConfigsCount) (es : List (TraceEvent T ID D)) (commits : List (CommitState T D))
+      → SeesKnownBy k w es commits → (t : T) (log : List (Entry T D)) (voters : ID → Bool)
+      → tally k w es t log voters ≡ elected_in k w commits t log voters
+  tally_known WhenAppended es commits sees t log voters = refl
+  tally_known WhenApplied es commits sees t log voters =
+      λ q. some_upto (length log)
+      (λ a. (hold_no_config k (take a log) || (earlier (take a log) ∙ sees t 0 (take a log)) q)
+      && (hold_at_most_one k (drop a log) && is_quorum_of_log k (take a log) voters))
+    where
+      none : (b c d : Bool) → d ≡ false → b ≡ (b || (c && d))
+      none true c d e = refl
+      none false true d e = sym e
+      none false false d e = refl
+
+      earlier : (p : List (Entry T D))
+          → is_known_by k (is_earlier k t) p es ≡ is_known_by k (is_shorter k t 0) p es
+      earlier p = λ q. is_known_by k (λ u m. none (nat_lt (k.rank u) (k.rank t)) (nat_eq (k.rank u) (k.rank t)) (nat_lt m 0) (le-ltb m 0 (omega arith)) q) p es
+
   pub grant_done : (es : List (TraceEvent T ID D)) (id : ID) (t : T) (c : ID)
-      (p : Parts T ID D) (i j len : ℕ) (s0 s m new : Server ID) (l0 l lnew : Leader T ID) (config : Option D)
+      (p : Parts T ID D) (i j len : ℕ) (s0 s m new : Server ID) (l0 l lnew : Leader T ID)
       → position (is_server id) p.servers ≡ Some i
       → s0 ≡ get_or p.servers i s0 → s ≡ get_or p.servers i s
       → position (is_leader t c) p.leaders ≡ Some j
@@ -859,13 +959,13 @@ module _ {T ID D : Type 0} (k : Tests T ID D (Option D)) (exact : AreExact k) wh
       ≡ (is_member k.same_id l.voters.items v || k.same_id v id))
       → (IsDistinct k.same_id l.voters.items → IsDistinct k.same_id lnew.voters.items)
       → (IsDistinct k.same_id l.voters.items
-      → lnew.elected ≡ k.quorum_of config (is_member k.same_id lnew.voters.items))
-      → config ≡ effective_config k.config_of k.initial (take l.start (log_at p.logs l.log))
+      → lnew.elected ≡ elected_in k k.counting (commits_in p) t (take l.start (log_at p.logs l.log))
+      (is_member k.same_id lnew.voters.items))
       → lnew ≡ record l { voters = lnew.voters; elected = lnew.elected }
-      → (broken_rule k (Granted id t c) es ≡ None)
+      → (first_broken k (Granted id t c) es ≡ None)
       × Keeps k (Granted id t c ∷ es) (with_leader (with_server p i new) j lnew)
-  grant_done es id t c p i j len s0 s m new l0 l lnew config at is0 is at_j is_l0 is_l keeps free above room is_len term kept
-      rest voted distinct elected is_config same =
+  grant_done es id t c p i j len s0 s m new l0 l lnew at is0 is at_j is_l0 is_l keeps free above room is_len term kept
+      rest voted distinct elected same =
       let reached = reaches p s m new (k.rank t) len room is_len term kept rest in
       let within : i < length p.servers = within_of (is_server id) p.servers i s at in
       let within_j : j < length p.leaders = within_of (is_leader t c) p.leaders j l at_j in
@@ -877,13 +977,16 @@ module _ {T ID D : Type 0} (k : Tests T ID D (Option D)) (exact : AreExact k) wh
       (grant_free p id t c i j s0 s l0 l within within_j is0 is is_l0 is_l free)
       above reached.id reached.term reached.voted (ap (log_at p.logs) reached.log) reached.durable reached.kept voted
       (distinct at_l.distinct)
-      (elected at_l.distinct ∙ ap (λ x. k.quorum_of x (is_member k.same_id lnew.voters.items)) is_config)
+      (elected at_l.distinct
+      ∙ sym (tally_known k.counting es (commits_in p) keeps.known t (take l.start (log_at p.logs l.log))
+      (is_member k.same_id lnew.voters.items)))
       (ap (λ (x : Leader T ID). x.acked.items) same) (voted_leader p l lnew same) in (
         done.0,
         keeps_both (Granted id t c ∷ es) p i j new l lnew within within_j is_l (ap (λ (x : Leader T ID). x.term) same)
             (rw reached.log (keeps.have_logs.of_servers i s within is))
             (rw (ap (λ (x : Leader T ID). x.log) same) (keeps.have_logs.of_leaders j l within_j is_l))
-            done.1 keeps.unused (ap (λ (x : Leader T ID). x.committed) same) es keeps,
+            done.1 keeps.unused (ap (λ (x : Leader T ID). x.committed) same)
+            (quiet es (Granted id t c ∷ es) (commits_in p) (λ u a x. refl) keeps.known) es keeps,
       )
 
   pub late_vote_done : (es : List (TraceEvent T ID D)) (id : ID) (t : T) (c : ID)
@@ -893,7 +996,7 @@ module _ {T ID D : Type 0} (k : Tests T ID D (Option D)) (exact : AreExact k) wh
       → position (is_leader t c) p.leaders ≡ Some j → l ≡ get_or p.leaders j l → Keeps k es p
       → grant_rule k.rank k.same_id (server_in p.logs s0) (leader_in p.logs l) id (k.rank t) c ≡ None
       → k.rank t ≤ s.terms.term → new ≡ record s { voted = k.rank t }
-      → (broken_rule k (Granted id t c) es ≡ None)
+      → (first_broken k (Granted id t c) es ≡ None)
       × Keeps k (Granted id t c ∷ es) (with_server p i new)
   late_vote_done es id t c p i j s0 s new l at is0 is at_j is_l keeps free reached rest =
       let within : i < length p.servers = within_of (is_server id) p.servers i s at in
@@ -907,14 +1010,15 @@ module _ {T ID D : Type 0} (k : Tests T ID D (Option D)) (exact : AreExact k) wh
       (ap (λ (x : Server ID). x.durable) rest) (ap (λ (x : Server ID). x.terms.kept) rest) in (
         done.0,
         keeps_server (Granted id t c ∷ es) p i new within
-            (rw (ap (λ (x : Server ID). x.log) rest) (keeps.have_logs.of_servers i s within is)) done.1 keeps.unused es keeps,
+            (rw (ap (λ (x : Server ID). x.log) rest) (keeps.have_logs.of_servers i s within is)) done.1 keeps.unused
+            (quiet es (Granted id t c ∷ es) (commits_in p) (λ u a x. refl) keeps.known) es keeps,
       )
 
   -- ---- campaigns
 
   pub campaign_twice : (es : List (TraceEvent T ID D)) (t : T) (c : ID) (p : Parts T ID D) (j : ℕ)
       → position (is_leader t c) p.leaders ≡ Some j → Keeps k es p
-      → (broken_rule k (Campaigned c t) es ≡ Some CampaignedTwice) × Keeps k es p
+      → (first_broken k (Campaigned c t) es ≡ Some CampaignedTwice) × Keeps k es p
   campaign_twice es t c p j at keeps = (
     (campaign_again k exact es t c (servers_in p) (leaders_in p) j (leader_place_in p t c (Some j) at) keeps.seen).0,
     keeps,
@@ -923,7 +1027,7 @@ module _ {T ID D : Type 0} (k : Tests T ID D (Option D)) (exact : AreExact k) wh
   pub campaign_passed : (es : List (TraceEvent T ID D)) (t : T) (c : ID) (p : Parts T ID D) (i : ℕ) (s : Server ID)
       → position (is_server c) p.servers ≡ Some i → s ≡ get_or p.servers i s
       → position (is_leader t c) p.leaders ≡ None → Keeps k es p → k.rank t ≤ s.terms.term
-      → (broken_rule k (Campaigned c t) es ≡ Some PassedTerm) × Keeps k es p
+      → (first_broken k (Campaigned c t) es ≡ Some PassedTerm) × Keeps k es p
   campaign_passed es t c p i s at is absent keeps below = (
     (campaign_refused k exact es t c (servers_in p) (servers_in p) (leaders_in p) i (server_in p.logs s)
         (server_place p c i at, inl refl) (item_map (server_in p.logs) p.servers i s is)
@@ -951,7 +1055,7 @@ module _ {T ID D : Type 0} (k : Tests T ID D (Option D)) (exact : AreExact k) wh
           absurd (omega (arith, below, above))
 
   pub campaign_done : (es : List (TraceEvent T ID D)) (t : T) (c : ID) (p : Parts T ID D) (i len : ℕ)
-      (s0 s m new : Server ID) (lnew : Leader T ID) (config : Option D)
+      (s0 s m new : Server ID) (lnew : Leader T ID)
       → position (is_server c) p.servers ≡ Some i
       → s0 ≡ get_or p.servers i s0 → s ≡ get_or p.servers i s
       → Keeps k es p → s0.terms.term < k.rank t
@@ -959,8 +1063,7 @@ module _ {T ID D : Type 0} (k : Tests T ID D (Option D)) (exact : AreExact k) wh
       → len ≡ length (log_at p.logs s.log) → new.terms.term ≡ max m.terms.term (k.rank t)
       → ((r : ℕ) → kept_from 0 new.terms.kept r ≡ kept_after m.terms.kept m.terms.term len (k.rank t) r)
       → new ≡ record m { terms = new.terms; voted = k.rank t }
-      → lnew.elected ≡ k.quorum_of config (is_member k.same_id (c ∷ []))
-      → config ≡ effective_config k.config_of k.initial (log_at p.logs s.log)
+      → lnew.elected ≡ elected_in k k.counting (commits_in p) t (log_at p.logs s.log) (is_member k.same_id (c ∷ []))
       → lnew.acked.items ≡ []
       → LeaderIs (leader_in p.logs lnew) t c (length (log_at p.logs s.log)) (log_at p.logs s.log) (c ∷ []) lnew.elected None
       → lnew.log ≡ s.log
@@ -968,9 +1071,9 @@ module _ {T ID D : Type 0} (k : Tests T ID D (Option D)) (exact : AreExact k) wh
       → place_of places (k.rank t)
       ≡ Some (first_of (place_of p.places (k.rank t)) (length p.leaders), length p.leaders)
       → ((q : ℕ) → (q ≡ k.rank t → ⊥) → place_of places q ≡ place_of p.places q)
-      → (broken_rule k (Campaigned c t) es ≡ None)
+      → (first_broken k (Campaigned c t) es ≡ None)
       × Keeps k (Campaigned c t ∷ es) (with_places (with_leaders (with_server p i new) (lnew ∷ p.leaders)) places)
-  campaign_done es t c p i len s0 s m new lnew config at is0 is keeps above room is_len term kept rest elected is_config acked
+  campaign_done es t c p i len s0 s m new lnew at is0 is keeps above room is_len term kept rest elected acked
       same same_log places here others =
       let reached = reaches p s m new (k.rank t) len room is_len term kept rest in
       let within : i < length p.servers = within_of (is_server c) p.servers i s at in
@@ -981,13 +1084,16 @@ module _ {T ID D : Type 0} (k : Tests T ID D (Option D)) (exact : AreExact k) wh
       (leader_place_in p t c None (no_campaign es t c p i s0 at is0 keeps above)) keeps.seen
       (subst (λ (x : Server ID). x.terms.term < k.rank t) one above)
       reached.id reached.term reached.voted (ap (log_at p.logs) reached.log) reached.durable reached.kept
-      (elected ∙ ap (λ x. k.quorum_of x (is_member k.same_id (c ∷ []))) is_config) acked same in
+      (elected
+      ∙ sym (tally_known k.counting es (commits_in p) keeps.known t (log_at p.logs s.log) (is_member k.same_id (c ∷ []))))
+      acked same in
       let have = have_more (with_server p i new) lnew
       (have_server p i new keeps.have_logs within (rw reached.log old_log)) (rw same_log old_log) in (
         done.0,
         record {
           are_logs = keeps.are_logs;
-          have_logs = record { of_servers = have.of_servers; of_leaders = have.of_leaders };
+          have_logs = record { of_servers = have.of_servers; of_leaders = have.of_leaders; of_commits = have.of_commits };
+          known = quiet es (Campaigned c t ∷ es) (commits_in p) (λ u a x. refl) keeps.known;
           placed = placed_more k.rank p.places places p.leaders lnew (k.rank t) (ap k.rank same.term) here others keeps.placed;
           bounded = bounded_more p.committed p.leaders lnew same.committed keeps.bounded;
           unused = keeps.unused;
@@ -1001,8 +1107,8 @@ module _ {T ID D : Type 0} (k : Tests T ID D (Option D)) (exact : AreExact k) wh
   pub write_refused : (es : List (TraceEvent T ID D)) (t : T) (c : ID) (e : Entry T D) (p : Parts T ID D) (j : ℕ)
       (l : Leader T ID) (r : Rule) (holds : D → Bool) → ((d : D) → k.config_of d ≡ config_in holds d)
       → k.initial ≡ None → position (is_leader t c) p.leaders ≡ Some j → l ≡ get_or p.leaders j l → Keeps k es p
-      → write_rule k.same_term holds k.intersect (leader_in p.logs l) t e ≡ Some r
-      → (broken_rule k (Wrote c t e) es ≡ Some r) × Keeps k es p
+      → write_rule k.counting k.same_term holds k.intersect (leader_in p.logs l) t e ≡ Some r
+      → (first_broken k (Wrote c t e) es ≡ Some r) × Keeps k es p
   write_refused es t c e p j l r holds is_holds initial at_j is_l keeps broken = (
     write_right k exact es t c e (leader_in p.logs l) holds is_holds initial
         (sees_leader_at es p t c j l at_j is_l keeps) ∙ broken,
@@ -1013,16 +1119,17 @@ module _ {T ID D : Type 0} (k : Tests T ID D (Option D)) (exact : AreExact k) wh
       (logs : AllLogs T D) (l0 l1 l lnew : Leader T ID) (holds : D → Bool) → ((d : D) → k.config_of d ≡ config_in holds d)
       → k.initial ≡ None → position (is_leader t c) p.leaders ≡ Some j
       → l0 ≡ get_or p.leaders j l0 → l1 ≡ get_or p.leaders j l1 → l ≡ get_or p.leaders j l → Keeps k es p
-      → write_rule k.same_term holds k.intersect (leader_in p.logs l0) t e ≡ None
+      → write_rule k.counting k.same_term holds k.intersect (leader_in p.logs l0) t e ≡ None
       → (log : ℕ) → IsChild (λ d. is_some (k.config_of d)) p.logs l1.log e logs log
       → lnew ≡ record l { log = log }
-      → (broken_rule k (Wrote c t e) es ≡ None)
+      → (first_broken k (Wrote c t e) es ≡ None)
       × Keeps k (Wrote c t e ∷ es) (record {
         logs = logs;
         servers = p.servers;
         leaders = set p.leaders j lnew;
         places = p.places;
         committed = p.committed;
+        commits = p.commits;
       })
   write_done es t c e p j logs l0 l1 l lnew holds is_holds initial at_j is_l0 is_l1 is_l keeps free log child rest =
       let is_log : lnew.log ≡ log = ap (λ (x : Leader T ID). x.log) rest in
@@ -1030,8 +1137,8 @@ module _ {T ID D : Type 0} (k : Tests T ID D (Option D)) (exact : AreExact k) wh
       let one : l0 ≡ l = same_item p.leaders j l0 l within_j is_l0 is_l in
       let other : l1 ≡ l = same_item p.leaders j l1 l within_j is_l1 is_l in
       let at_l : SeesLeader k es t c (leader_in p.logs l) = sees_leader_at es p t c j l at_j is_l keeps in
-      let now : write_rule k.same_term holds k.intersect (leader_in p.logs l) t e ≡ None =
-      subst (λ (x : Leader T ID). write_rule k.same_term holds k.intersect (leader_in p.logs x) t e ≡ None) one free in
+      let now : write_rule k.counting k.same_term holds k.intersect (leader_in p.logs l) t e ≡ None =
+      subst (λ (x : Leader T ID). write_rule k.counting k.same_term holds k.intersect (leader_in p.logs x) t e ≡ None) one free in
       let new_log : log_at logs lnew.log ≡ log_at p.logs l.log ++ e ∷ [] =
       ap (log_at logs) is_log ∙ child.is ∙ ap (λ (x : Leader T ID). log_at p.logs x.log ++ e ∷ []) other in
       let done = write_seen k exact es t c e (servers_in p) (leaders_in p) j (leader_in p.logs l) (leader_in logs lnew)
@@ -1057,16 +1164,23 @@ module _ {T ID D : Type 0} (k : Tests T ID D (Option D)) (exact : AreExact k) wh
         leaders = p.leaders;
         places = p.places;
         committed = p.committed;
+        commits = p.commits;
       } in
       let have : HaveLogs grown = record {
         of_servers = λ i s h is.
             (let o : s.log < length p.logs.logs = keeps.have_logs.of_servers i s h is in omega (arith, o, child.more));
         of_leaders = λ i x h is.
             (let o : x.log < length p.logs.logs = keeps.have_logs.of_leaders i x h is in omega (arith, o, child.more));
-      } in (
+        of_commits = λ i x h is.
+            (let o : x.log < length p.logs.logs = keeps.have_logs.of_commits i x h is in omega (arith, o, child.more));
+      } in
+      let same_c : map (commit_in logs) p.commits ≡ commits_in p =
+      same_commits p.logs logs p.commits (λ i x h is. child.kept x.log (keeps.have_logs.of_commits i x h is)) in (
         done.0,
         record {
           are_logs = child.logs;
+          known = subst (λ (x : List (CommitState T D)). SeesKnownBy k k.counting (Wrote c t e ∷ es) x) (sym same_c)
+              (quiet es (Wrote c t e ∷ es) (commits_in p) (λ u a x. refl) keeps.known);
           have_logs = have_leader grown j lnew have within_j (rw is_log child.within);
           placed = placed_set k.rank p.places p.leaders j l lnew within_j is_l (ap (λ (x : Leader T ID). x.term) rest) keeps.placed;
           bounded = bounded_same p.committed p.leaders j l lnew within_j is_l (ap (λ (x : Leader T ID). x.committed) rest)
@@ -1100,46 +1214,66 @@ module _ {T ID D : Type 0} (k : Tests T ID D (Option D)) (exact : AreExact k) wh
 
   -- ---- commits
 
+  -- what the tests of a commit say, if configs count once they are applied
+  pub record CommitTests (es : List (TraceEvent T ID D)) (t : T) (c : ID) (n m : ℕ) (p : Parts T ID D)
+      (l : Leader T ID) (known follows : Bool) : Type 0 where
+    pub is_known : k.counting ≡ WhenApplied → may_count_acks k es t c m ≡ known
+    pub is_alone : k.counting ≡ WhenApplied → hold_at_most_one k (drop m (take n (log_at p.logs l.log))) ≡ follows
+
   pub commit_refused : (es : List (TraceEvent T ID D)) (t : T) (c : ID) (n m : ℕ) (p : Parts T ID D) (j : ℕ)
       (l : Leader T ID) (r : Rule) → position (is_leader t c) p.leaders ≡ Some j → l ≡ get_or p.leaders j l
-      → Keeps k es p → commit_rule (leader_in p.logs l) n m ≡ Some r
-      → (broken_rule k (Committed c t n m) es ≡ Some r) × Keeps k es p
-  commit_refused es t c n m p j l r at_j is_l keeps broken =
+      → Keeps k es p → (known follows : Bool) → CommitTests es t c n m p l known follows
+      → commit_rule k.counting (leader_in p.logs l) n m known follows None ≡ Some r
+      → (first_broken k (Committed c t n m) es ≡ Some r) × Keeps k es p
+  commit_refused es t c n m p j l r at_j is_l keeps known follows tests broken =
       let at_l : SeesLeader k es t c (leader_in p.logs l) = sees_leader_at es p t c j l at_j is_l keeps in
       let quorum : Bool =
       is_quorum_of_log k (take m (log_at p.logs l.log)) (λ v. has_acked_to k.same_id l.acked.items v n) in (
-        commit_right k exact es t c n m (leader_in p.logs l) quorum at_l refl
-            ∙ commit_first k exact (leader_in p.logs l) n m r (unless quorum NoQuorum None) broken,
+        commit_right k exact es t c n m (leader_in p.logs l) known follows quorum at_l tests.is_known tests.is_alone refl
+            ∙ commit_first k exact (leader_in p.logs l) n m known follows r (unless quorum NoQuorum None) broken,
         keeps,
       )
 
-  commit_short : (l : LeaderState T ID D) (n m : ℕ) → commit_rule l n m ≡ None → n ≤ length l.log
-  commit_short l n m e =
-      go l.elected (nat_lt l.start n) (nat_le n m) (nat_le m (length l.log)) refl refl e
+  commit_short : (l : LeaderState T ID D) (n m : ℕ) (known follows : Bool)
+      → commit_rule k.counting l n m known follows None ≡ None → n ≤ length l.log
+  commit_short l n m known follows e = go k.counting l.elected (nat_lt l.start n) e
     where
-      go : (a b x y : Bool) → nat_le n m ≡ x → nat_le m (length l.log) ≡ y
-          → unless a NotElected (unless b EarlierTerm (unless x CountedEarly (unless y NotWritten None))) ≡ None
-          → n ≤ length l.log
-      go true true true true q w h =
+      two : (x y : Bool) → nat_le n m ≡ x → nat_le m (length l.log) ≡ y
+          → unless x CountedEarly (unless y NotWritten None) ≡ None → n ≤ length l.log
+      two true true q w h =
           let u : n ≤ m = leb-true n m q in
           let v : m ≤ length l.log = leb-true m (length l.log) w in
           omega arith
-      go true true true false q w h = absurd (cc)
-      go true true false y q w h = absurd (cc)
-      go true false x y q w h = absurd (cc)
-      go false b x y q w h = absurd (cc)
+      two true false q w h = absurd (cc)
+      two false y q w h = absurd (cc)
+
+      four : (x y : Bool) → nat_le n (length l.log) ≡ y
+          → unless x CountedLate (unless y NotWritten (unless known UnknownConfig (unless follows ConfigsFollow None)))
+          ≡ None → n ≤ length l.log
+      four true true w h = leb-true n (length l.log) w
+      four true false w h = absurd (cc)
+      four false y w h = absurd (cc)
+
+      go : (w : ConfigsCount) (a b : Bool)
+          → unless a NotElected (unless b EarlierTerm (counted_rule w l n m known follows None)) ≡ None
+          → n ≤ length l.log
+      go WhenAppended true true h = two (nat_le n m) (nat_le m (length l.log)) refl refl h
+      go WhenApplied true true h = four (nat_le m n) (nat_le n (length l.log)) refl h
+      go w true false h = absurd (cc)
+      go w false b h = absurd (cc)
 
   -- the quorum of a commit is tested
   commit_tested : (es : List (TraceEvent T ID D)) (t : T) (c : ID) (n m : ℕ) (p : Parts T ID D) (j : ℕ)
       (l l1 l2 : Leader T ID) (ids : List ID) (config : Option D) (quorum : Bool)
       → position (is_leader t c) p.leaders ≡ Some j
       → l ≡ get_or p.leaders j l → l1 ≡ get_or p.leaders j l1 → l2 ≡ get_or p.leaders j l2
-      → Keeps k es p → commit_rule (leader_in p.logs l) n m ≡ None
+      → Keeps k es p → (known follows : Bool) → CommitTests es t c n m p l known follows
+      → commit_rule k.counting (leader_in p.logs l) n m known follows None ≡ None
       → ((v : ID) → is_member k.same_id ids v ≡ has_acked_to k.same_id l1.acked.items v n)
       → config ≡ effective_config k.config_of k.initial (take m (log_at p.logs l2.log))
       → quorum ≡ k.quorum_of config (is_member k.same_id ids)
-      → broken_rule k (Committed c t n m) es ≡ unless quorum NoQuorum None
-  commit_tested es t c n m p j l l1 l2 ids config quorum at_j is is1 is2 keeps free members is_config counted =
+      → first_broken k (Committed c t n m) es ≡ unless quorum NoQuorum None
+  commit_tested es t c n m p j l l1 l2 ids config quorum at_j is is1 is2 keeps known follows tests free members is_config counted =
       let within : j < length p.leaders = within_of (is_leader t c) p.leaders j l at_j in
       let q1 : l1 ≡ l = same_item p.leaders j l1 l within is1 is in
       let q2 : l2 ≡ l = same_item p.leaders j l2 l within is2 is in
@@ -1152,20 +1286,21 @@ module _ {T ID D : Type 0} (k : Tests T ID D (Option D)) (exact : AreExact k) wh
       ≡ quorum =
       (λ q. is_quorum_of_log k (take m (log_at p.logs l.log)) (λ v. by_ids v q))
       ∙ sym (counted ∙ ap (λ x. k.quorum_of x (is_member k.same_id ids)) in_effect) in
-      commit_right k exact es t c n m (leader_in p.logs l) quorum at_l tested
-      ∙ commit_then k exact (leader_in p.logs l) n m (unless quorum NoQuorum None) free
+      commit_right k exact es t c n m (leader_in p.logs l) known follows quorum at_l tests.is_known tests.is_alone tested
+      ∙ commit_then k exact (leader_in p.logs l) n m known follows (unless quorum NoQuorum None) free
 
   pub commit_uncounted : (es : List (TraceEvent T ID D)) (t : T) (c : ID) (n m : ℕ) (p : Parts T ID D) (j : ℕ)
       (l l1 l2 : Leader T ID) (ids : List ID) (config : Option D) (quorum : Bool)
       → position (is_leader t c) p.leaders ≡ Some j
       → l ≡ get_or p.leaders j l → l1 ≡ get_or p.leaders j l1 → l2 ≡ get_or p.leaders j l2
-      → Keeps k es p → commit_rule (leader_in p.logs l) n m ≡ None
+      → Keeps k es p → (known follows : Bool) → CommitTests es t c n m p l known follows
+      → commit_rule k.counting (leader_in p.logs l) n m known follows None ≡ None
       → ((v : ID) → is_member k.same_id ids v ≡ has_acked_to k.same_id l1.acked.items v n)
       → config ≡ effective_config k.config_of k.initial (take m (log_at p.logs l2.log))
       → quorum ≡ k.quorum_of config (is_member k.same_id ids) → quorum ≡ false
-      → (broken_rule k (Committed c t n m) es ≡ Some NoQuorum) × Keeps k es p
-  commit_uncounted es t c n m p j l l1 l2 ids config quorum at_j is is1 is2 keeps free members is_config counted few = (
-    commit_tested es t c n m p j l l1 l2 ids config quorum at_j is is1 is2 keeps free members is_config counted
+      → (first_broken k (Committed c t n m) es ≡ Some NoQuorum) × Keeps k es p
+  commit_uncounted es t c n m p j l l1 l2 ids config quorum at_j is is1 is2 keeps known follows tests free members is_config counted few = (
+    commit_tested es t c n m p j l l1 l2 ids config quorum at_j is is1 is2 keeps known follows tests free members is_config counted
         ∙ ap (λ b. unless b NoQuorum None) few,
     keeps,
   )
@@ -1175,25 +1310,30 @@ module _ {T ID D : Type 0} (k : Tests T ID D (Option D)) (exact : AreExact k) wh
       → position (is_leader t c) p.leaders ≡ Some j
       → l ≡ get_or p.leaders j l → l1 ≡ get_or p.leaders j l1 → l2 ≡ get_or p.leaders j l2
       → l3 ≡ get_or p.leaders j l3
-      → Keeps k es p → commit_rule (leader_in p.logs l) n m ≡ None
+      → Keeps k es p → (known follows : Bool) → CommitTests es t c n m p l known follows
+      → commit_rule k.counting (leader_in p.logs l) n m known follows None ≡ None
       → ((v : ID) → is_member k.same_id ids v ≡ has_acked_to k.same_id l1.acked.items v n)
       → config ≡ effective_config k.config_of k.initial (take m (log_at p.logs l2.log))
       → quorum ≡ k.quorum_of config (is_member k.same_id ids) → quorum ≡ true
       → lnew ≡ record l3 { committed = Some (max (unwrap_or l3.committed 0) n) }
       → (most : ℕ) → most ≡ max p.committed n
-      → (broken_rule k (Committed c t n m) es ≡ None)
-      × Keeps k (Committed c t n m ∷ es) (with_committed (with_leader p j lnew) most)
-  commit_done es t c n m p j l l1 l2 l3 lnew ids config quorum at_j is is1 is2 is3 keeps free members is_config counted enough
-      rest most is_most =
-      let tested : broken_rule k (Committed c t n m) es ≡ unless quorum NoQuorum None =
-      commit_tested es t c n m p j l l1 l2 ids config quorum at_j is is1 is2 keeps free members is_config counted in
+      → (commits : List Commit)
+      → ((i : ℕ) (x : Commit) → i < length commits → x ≡ get_or commits i x → x.log < length p.logs.logs)
+      → SeesKnownBy k k.counting (Committed c t n m ∷ es) (map (commit_in p.logs) commits)
+      → ((u : T) (d : ID) → is_elected_when k (Committed c t n m ∷ es) u d ≡ is_elected_when k es u d)
+      → (first_broken k (Committed c t n m) es ≡ None)
+      × Keeps k (Committed c t n m ∷ es) (with_commits (with_committed (with_leader p j lnew) most) commits)
+  commit_done es t c n m p j l l1 l2 l3 lnew ids config quorum at_j is is1 is2 is3 keeps known follows tests free members is_config counted enough
+      rest most is_most commits have_commits sees_commits stable =
+      let tested : first_broken k (Committed c t n m) es ≡ unless quorum NoQuorum None =
+      commit_tested es t c n m p j l l1 l2 ids config quorum at_j is is1 is2 keeps known follows tests free members is_config counted in
       let within : j < length p.leaders = within_of (is_leader t c) p.leaders j l at_j in
       let q3 : l ≡ l3 = same_item p.leaders j l l3 within is is3 in
       let short : n ≤ length (log_at p.logs l3.log) =
-      subst (λ (x : Leader T ID). n ≤ length (log_at p.logs x.log)) q3 (commit_short (leader_in p.logs l) n m free) in
+      subst (λ (x : Leader T ID). n ≤ length (log_at p.logs x.log)) q3 (commit_short (leader_in p.logs l) n m known follows free) in
       let done = commit_seen k exact es t c n m (servers_in p) (leaders_in p) j (leader_in p.logs l3) (leader_in p.logs lnew)
       (leader_place_in p t c (Some j) at_j) (item_map (leader_in p.logs) p.leaders j l3 is3) keeps.seen
-      (tested ∙ ap (λ b. unless b NoQuorum None) enough) short (ap (λ (x : Leader T ID). x.acked.items) rest)
+      (tested ∙ ap (λ b. unless b NoQuorum None) enough) short stable (ap (λ (x : Leader T ID). x.acked.items) rest)
       (record {
         term = ap (λ (x : Leader T ID). x.term) rest;
         id = ap (λ (x : Leader T ID). x.id) rest;
@@ -1204,10 +1344,10 @@ module _ {T ID D : Type 0} (k : Tests T ID D (Option D)) (exact : AreExact k) wh
         committed = ap (λ (x : Leader T ID). x.committed) rest;
       }) in (
         done.0,
-        keeps_leader (Committed c t n m ∷ es) p j most l3 lnew within is3 (ap (λ (x : Leader T ID). x.term) rest)
+        keeps_commits (Committed c t n m ∷ es) p j most commits l3 lnew within is3 (ap (λ (x : Leader T ID). x.term) rest)
             (rw (ap (λ (x : Leader T ID). x.log) rest) (keeps.have_logs.of_leaders j l3 within is3)) done.1 keeps.unused
             (rw is_most (bounded_commit p.committed p.leaders j n l3 lnew within is3
-            (ap (λ (x : Leader T ID). x.committed) rest) keeps.bounded)) es keeps,
+            (ap (λ (x : Leader T ID). x.committed) rest) keeps.bounded)) have_commits sees_commits es keeps,
       )
 
   -- ---- what is applied
@@ -1216,7 +1356,7 @@ module _ {T ID D : Type 0} (k : Tests T ID D (Option D)) (exact : AreExact k) wh
       (s : Server ID) (l : Leader T ID)
       → position (is_server id) p.servers ≡ Some i → s ≡ get_or p.servers i s
       → position (is_leader t c) p.leaders ≡ Some j → l ≡ get_or p.leaders j l → Keeps k es p
-      → broken_rule k (Applied id t c n) es
+      → first_broken k (Applied id t c n) es
       ≡ option_or (apply_rule (same_entry k) (server_in p.logs s) (leader_in p.logs l) n)
       (unless (list_any (knows k.rank (same_entry k) (k.rank t) (take n (log_at p.logs l.log))) (leaders_in p)) NotCommitted None)
   apply_test es id t c n p i j s l at is at_j is_l keeps =
@@ -1228,7 +1368,7 @@ module _ {T ID D : Type 0} (k : Tests T ID D (Option D)) (exact : AreExact k) wh
       → position (is_server id) p.servers ≡ Some i → s ≡ get_or p.servers i s
       → position (is_leader t c) p.leaders ≡ Some j → l ≡ get_or p.leaders j l → Keeps k es p
       → apply_rule (same_entry k) (server_in p.logs s) (leader_in p.logs l) n ≡ Some r
-      → (broken_rule k (Applied id t c n) es ≡ Some r) × Keeps k es p
+      → (first_broken k (Applied id t c n) es ≡ Some r) × Keeps k es p
   apply_refused es id t c n p i j s l r at is at_j is_l keeps broken = (
     apply_test es id t c n p i j s l at is at_j is_l keeps
         ∙ ap (λ (o : Option Rule). option_or o
@@ -1245,7 +1385,7 @@ module _ {T ID D : Type 0} (k : Tests T ID D (Option D)) (exact : AreExact k) wh
       → Keeps k es p → apply_rule (same_entry k) (server_in p.logs s) (leader_in p.logs l) n ≡ None
       → log_at p.logs prefix ≡ take n (log_at p.logs l2.log)
       → known ≡ list_any (knows k.rank (same_entry k) (k.rank t) (log_at p.logs prefix)) (leaders_in p)
-      → broken_rule k (Applied id t c n) es ≡ unless known NotCommitted None
+      → first_broken k (Applied id t c n) es ≡ unless known NotCommitted None
   apply_known es id t c n prefix p i j s l l2 known at is at_j is_l is_l2 keeps free first is_known =
       let within : j < length p.leaders = within_of (is_leader t c) p.leaders j l at_j in
       let q : l2 ≡ l = same_item p.leaders j l2 l within is_l2 is_l in
@@ -1265,7 +1405,7 @@ module _ {T ID D : Type 0} (k : Tests T ID D (Option D)) (exact : AreExact k) wh
       → Keeps k es p → apply_rule (same_entry k) (server_in p.logs s) (leader_in p.logs l) n ≡ None
       → log_at p.logs prefix ≡ take n (log_at p.logs l2.log)
       → known ≡ list_any (knows k.rank (same_entry k) (k.rank t) (log_at p.logs prefix)) (leaders_in p)
-      → known ≡ false → (broken_rule k (Applied id t c n) es ≡ Some NotCommitted) × Keeps k es p
+      → known ≡ false → (first_broken k (Applied id t c n) es ≡ Some NotCommitted) × Keeps k es p
   apply_uncommitted es id t c n prefix p i j s l l2 known at is at_j is_l is_l2 keeps free first is_known none = (
     apply_known es id t c n prefix p i j s l l2 known at is at_j is_l is_l2 keeps free first is_known
         ∙ ap (λ b. unless b NotCommitted None) none,
@@ -1280,9 +1420,9 @@ module _ {T ID D : Type 0} (k : Tests T ID D (Option D)) (exact : AreExact k) wh
       → log_at p.logs prefix ≡ take n (log_at p.logs l2.log)
       → known ≡ list_any (knows k.rank (same_entry k) (k.rank t) (log_at p.logs prefix)) (leaders_in p)
       → known ≡ true
-      → (broken_rule k (Applied id t c n) es ≡ None) × Keeps k (Applied id t c n ∷ es) p
+      → (first_broken k (Applied id t c n) es ≡ None) × Keeps k (Applied id t c n ∷ es) p
   apply_done es id t c n prefix p i j s l l2 known at is at_j is_l is_l2 keeps free first is_known found =
-      let ok : broken_rule k (Applied id t c n) es ≡ None =
+      let ok : first_broken k (Applied id t c n) es ≡ None =
       apply_known es id t c n prefix p i j s l l2 known at is at_j is_l is_l2 keeps free first is_known
       ∙ ap (λ b. unless b NotCommitted None) found in
       let done = apply_seen k exact es (servers_in p) (leaders_in p) id t c n keeps.seen ok in (
@@ -1292,6 +1432,7 @@ module _ {T ID D : Type 0} (k : Tests T ID D (Option D)) (exact : AreExact k) wh
           have_logs = keeps.have_logs;
           placed = keeps.placed;
           bounded = keeps.bounded;
+          known = quiet es (Applied id t c n ∷ es) (commits_in p) (λ u a x. refl) keeps.known;
           unused = keeps.unused;
           seen = done.1;
         },

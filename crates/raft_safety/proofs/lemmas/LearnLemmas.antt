@@ -50,8 +50,6 @@ use Rattle.raft_safety.specs.Trace.{
   and_append,
   and_restart,
   and_vote,
-  are_allowed,
-  broken_rule,
   candidate_log_in,
   common_prefix,
   durable,
@@ -62,13 +60,13 @@ use Rattle.raft_safety.specs.Trace.{
   has_voted,
   hold_no_config,
   is_config_committed,
-  is_elected,
+  is_earlier,
+  is_known_by,
   is_known_committed,
   is_prefix,
   is_quorum_of_log,
   leader_log_in,
   log_in,
-  proposal_rule,
   same_entry,
   same_leader,
   unless,
@@ -77,6 +75,9 @@ use Rattle.raft_safety.specs.declared.rule.Rule.TheVariants.{
   ApartConfigs,
   ApartQuorums,
   CountedEarly,
+  CountedLate,
+  UnknownConfig,
+  ConfigsFollow,
   EarlierTerm,
   EarlyConfig,
   NoQuorum,
@@ -84,8 +85,13 @@ use Rattle.raft_safety.specs.declared.rule.Rule.TheVariants.{
   NotWritten,
 }
 use Rattle.raft_safety.specs.Inner.CheckerState.{LeaderState, ServerState, common_len, config_in, no_config_in}
-use Rattle.raft_safety.specs.Inner.Kept.{Parts, leaders_in, servers_in}
+use Rattle.raft_safety.specs.Inner.Kept.{Parts, commits_in, leaders_in, servers_in}
 use Rattle.raft_safety.specs.Inner.Logs.{AllLogs, AreLogs, AreWithout, log_at}
+use Rattle.raft_safety.specs.AppliedTrace.{hold_at_most_one, is_shorter, may_count_acks, some_upto}
+use Rattle.raft_safety.specs.Counted.{are_all_allowed, first_broken, is_elected_when, tests_by}
+use Rattle.raft_safety.specs.Inner.Known.{CommitState, SeesKnownBy}
+use Rattle.raft_safety.specs.declared.checker.counting.ConfigsCount.{ConfigsCount}
+use Rattle.raft_safety.specs.declared.checker.counting.ConfigsCount.TheVariants.{WhenAppended, WhenApplied}
 use Rattle.raft_safety.specs.Inner.Seen.{
   SeesLeader,
   SeesLeaders,
@@ -115,6 +121,7 @@ with_configs k config_of quorum_of intersect = record {
   initial = k.initial;
   quorum_of = quorum_of;
   intersect = intersect;
+  counting = k.counting;
 }
 
 -- ---- configs of logs that lack a content, by two ways that differ at this content alone
@@ -267,6 +274,20 @@ module _ {T ID D : Type 0} (k : Tests T ID D (Option D)) (config_of : D → Opti
       ∙ (λ q. (nat_le (k.rank t) r && same_prefix p (take n (leader_log_in k es t c)) q) || is_known_committed k r p es)
   same_known r p (Applied s t c n ∷ es) = same_known r p es
 
+  same_known_by : (early : T → ℕ → Bool) (p : List (Entry T D)) (es : List (TraceEvent T ID D))
+      → is_known_by other early p es ≡ is_known_by k early p es
+  same_known_by early p [] = refl
+  same_known_by early p (Campaigned c t ∷ es) = same_known_by early p es
+  same_known_by early p (Granted s t c ∷ es) = same_known_by early p es
+  same_known_by early p (Appended s t c n sent ∷ es) = same_known_by early p es
+  same_known_by early p (Acked s t c n ∷ es) = same_known_by early p es
+  same_known_by early p (Restarted s n ∷ es) = same_known_by early p es
+  same_known_by early p (Wrote c t e ∷ es) = same_known_by early p es
+  same_known_by early p (Committed c t n m ∷ es) =
+      (λ q. (early t m && is_prefix other p (take n (same_leader_log es t c q))) || same_known_by early p es q)
+      ∙ (λ q. (early t m && same_prefix p (take n (leader_log_in k es t c)) q) || is_known_by k early p es)
+  same_known_by early p (Applied s t c n ∷ es) = same_known_by early p es
+
   voted_same : (es : List (TraceEvent T ID D)) (t : T) (c v : ID)
       → has_voted other t c (events_in other es v) ≡ has_voted k t c (events_in k es v)
   voted_same es t c v =
@@ -402,13 +423,40 @@ module _ {T ID D : Type 0} (k : Tests T ID D (Option D)) (config_of : D → Opti
         (λ q. quorum_of (same_effective k.same_content d config_of k.config_of agree.config k.initial log h q) set)
         ∙ agree.quorum (effective_config k.config_of k.initial log) (other_effective k.initial log agree.initial h) set
 
+    same_at_most_one : (log : List (Entry T D)) → LackContent k.same_content d log
+        → hold_at_most_one other log ≡ hold_at_most_one k log
+    same_at_most_one [] h = refl
+    same_at_most_one (e ∷ log) h =
+        λ q. same_no_config log h.1 q
+        || (is_none (agree.config e.content h.0 q) && same_at_most_one log h.1 q)
+
     same_elected : (es : List (TraceEvent T ID D)) (t : T) (c : ID) → IsUnused k.same_content d es
-        → is_elected other es t c ≡ is_elected k es t c
-    same_elected es t c h =
-        (λ q. voted_same es t c c q
-        && is_quorum_of_log other (same_candidate_log es t c q) (λ v. voted_same es t c v q))
-        ∙ (λ q. has_voted k t c (events_in k es c)
-        && same_quorum (candidate_log_in k es t c) (λ v. has_voted k t c (events_in k es v)) (lack_candidate es h t c) q)
+        → is_elected_when other es t c ≡ is_elected_when k es t c
+    same_elected es t c h = go k.counting
+      where
+        log : List (Entry T D)
+        log = candidate_log_in k es t c
+
+        lacks : LackContent k.same_content d log
+        lacks = lack_candidate es h t c
+
+        go : (w : ConfigsCount) → (tests_by other w).is_elected es t c ≡ (tests_by k w).is_elected es t c
+        go WhenAppended =
+            (λ q. voted_same es t c c q
+            && is_quorum_of_log other (same_candidate_log es t c q) (λ v. voted_same es t c v q))
+            ∙ (λ q. has_voted k t c (events_in k es c)
+            && same_quorum log (λ v. has_voted k t c (events_in k es v)) lacks q)
+        go WhenApplied =
+            (λ q. voted_same es t c c q && some_upto (length (same_candidate_log es t c q))
+            (λ a. (hold_no_config other (take a (same_candidate_log es t c q))
+            || is_known_by other (is_earlier k t) (take a (same_candidate_log es t c q)) es)
+            && (hold_at_most_one other (drop a (same_candidate_log es t c q))
+            && is_quorum_of_log other (take a (same_candidate_log es t c q)) (λ v. voted_same es t c v q))))
+            ∙ (λ q. has_voted k t c (events_in k es c) && some_upto (length log)
+            (λ a. (same_no_config (take a log) (lack_take k.same_content d a log lacks) q
+            || same_known_by (is_earlier k t) (take a log) es q)
+            && (same_at_most_one (drop a log) (lack_drop k.same_content d a log lacks) q
+            && same_quorum (take a log) (λ v. has_voted k t c (events_in k es v)) (lack_take k.same_content d a log lacks) q)))
 
     same_configs_committed : (es : List (TraceEvent T ID D)) (u : T) (v : ID) (log : List (Entry T D))
         → LackContent k.same_content d log → is_config_committed other u v log es ≡ is_config_committed k u v log es
@@ -426,9 +474,11 @@ module _ {T ID D : Type 0} (k : Tests T ID D (Option D)) (config_of : D → Opti
 
     same_proposal : (es : List (TraceEvent T ID D)) (t : T) (c : ID) (x : D) → IsUnused k.same_content d es
         → k.same_content d x ≡ false
-        → proposal_rule other es t c (config_of x) ≡ proposal_rule k es t c (k.config_of x)
+        → (tests_by other k.counting).config_rule es t c (config_of x)
+        ≡ (tests_by k k.counting).config_rule es t c (k.config_of x)
     same_proposal es t c x h new =
-        ap (λ o. proposal_rule other es t c o) (agree.config x new) ∙ go (k.config_of x) refl
+        ap (λ o. (tests_by other k.counting).config_rule es t c o) (agree.config x new)
+        ∙ go k.counting (k.config_of x) refl
       where
         log : List (Entry T D)
         log = leader_log_in k es t c
@@ -447,22 +497,73 @@ module _ {T ID D : Type 0} (k : Tests T ID D (Option D)) (config_of : D → Opti
             (λ q. is_config_committed other t c (same_leader_log es t c q) es)
             ∙ same_configs_committed es t c log lacks
 
-        go : (o : Option (Option D)) → k.config_of x ≡ o → proposal_rule other es t c o ≡ proposal_rule k es t c o
-        go None q = refl
-        go (Some m) q =
-            let is_other : IsOther d m = other_config x m new q in
-            let old_and_new : intersect (effective_config config_of k.initial (leader_log_in other es t c)) m
-            ≡ k.intersect (effective_config k.config_of k.initial log) m =
+        old_and_new : (m : Option D) → IsOther d m
+            → intersect (effective_config config_of k.initial (leader_log_in other es t c)) m
+            ≡ k.intersect (effective_config k.config_of k.initial log) m
+        old_and_new m is_other =
             (λ i. intersect (in_effect i) m)
-            ∙ agree.meet (effective_config k.config_of k.initial log) m (other_effective k.initial log agree.initial lacks) is_other in
-            λ i. unless (old_and_new i) ApartConfigs
+            ∙ agree.meet (effective_config k.config_of k.initial log) m (other_effective k.initial log agree.initial lacks) is_other
+
+        go : (w : ConfigsCount) (o : Option (Option D)) → k.config_of x ≡ o
+            → (tests_by other w).config_rule es t c o ≡ (tests_by k w).config_rule es t c o
+        go WhenAppended None q = refl
+        go WhenApplied None q = refl
+        go WhenAppended (Some m) q =
+            let is_other : IsOther d m = other_config x m new q in
+            λ i. unless (old_and_new m is_other i) ApartConfigs
             (unless (agree.meet m m is_other is_other i) ApartQuorums
             (unless (committed i) EarlyConfig None))
+        go WhenApplied (Some m) q =
+            let is_other : IsOther d m = other_config x m new q in
+            λ i. unless (old_and_new m is_other i) ApartConfigs
+            (unless (agree.meet m m is_other is_other i) ApartQuorums None)
+
+    same_commit : (w : ConfigsCount) (es : List (TraceEvent T ID D)) (t : T) (c : ID) (n m : ℕ)
+        → IsUnused k.same_content d es
+        → (tests_by other w).commit_rule es t c n m ≡ (tests_by k w).commit_rule es t c n m
+    same_commit w es t c n m h = go w
+      where
+        log : List (Entry T D)
+        log = leader_log_in k es t c
+
+        lacks : LackContent k.same_content d log
+        lacks = lack_leader es h t c
+
+        quorum : is_quorum_of_log other (take m (leader_log_in other es t c))
+            (λ v. has_acked other t c n (events_in other es v))
+            ≡ is_quorum_of_log k (take m log) (λ v. has_acked k t c n (events_in k es v))
+        quorum =
+            (λ q. is_quorum_of_log other (take m (same_leader_log es t c q)) (λ v. acked_same es t c n v q))
+            ∙ same_quorum (take m log) (λ v. has_acked k t c n (events_in k es v)) (lack_take k.same_content d m log lacks)
+
+        known : may_count_acks other es t c m ≡ may_count_acks k es t c m
+        known =
+            (λ q. hold_no_config other (take m (same_leader_log es t c q))
+            || is_known_by other (is_shorter k t m) (take m (same_leader_log es t c q)) es)
+            ∙ (λ q. same_no_config (take m log) (lack_take k.same_content d m log lacks) q
+            || same_known_by (is_shorter k t m) (take m log) es q)
+
+        follows : hold_at_most_one other (drop m (take n (leader_log_in other es t c)))
+            ≡ hold_at_most_one k (drop m (take n log))
+        follows =
+            (λ q. hold_at_most_one other (drop m (take n (same_leader_log es t c q))))
+            ∙ same_at_most_one (drop m (take n log))
+            (lack_drop k.same_content d m (take n log) (lack_take k.same_content d n log lacks))
+
+        go : (x : ConfigsCount)
+            → (tests_by other x).commit_rule es t c n m ≡ (tests_by k x).commit_rule es t c n m
+        go WhenAppended =
+            λ q. unless (nat_le n m) CountedEarly
+            (unless (nat_le m (length (same_leader_log es t c q))) NotWritten (unless (quorum q) NoQuorum None))
+        go WhenApplied =
+            λ q. unless (nat_le m n) CountedLate
+            (unless (nat_le n (length (same_leader_log es t c q))) NotWritten
+            (unless (known q) UnknownConfig (unless (follows q) ConfigsFollow (unless (quorum q) NoQuorum None))))
 
     -- ---- which rule an event breaks
 
     same_rule : (e : TraceEvent T ID D) (es : List (TraceEvent T ID D)) → IsUnused k.same_content d (e ∷ es)
-        → broken_rule other e es ≡ broken_rule k e es
+        → first_broken other e es ≡ first_broken k e es
     same_rule (Campaigned c t) es h = rw (same_campaigned es t c, same_events es c) refl
     same_rule (Granted s t c) es h =
         rw (same_campaigned es t c, same_events es s, same_candidate_log es t c) refl
@@ -487,17 +588,8 @@ module _ {T ID D : Type 0} (k : Tests T ID D (Option D)) (config_of : D → Opti
     same_rule (Wrote c t e) es h =
         rw (same_elected es t c h.1, same_proposal es t c e.content h.1 h.0) refl
     same_rule (Committed c t n m) es h =
-        let quorum : is_quorum_of_log other (take m (leader_log_in other es t c))
-        (λ v. has_acked other t c n (events_in other es v))
-        ≡ is_quorum_of_log k (take m (leader_log_in k es t c)) (λ v. has_acked k t c n (events_in k es v)) =
-        (λ q. is_quorum_of_log other (take m (same_leader_log es t c q)) (λ v. acked_same es t c n v q))
-        ∙ same_quorum (take m (leader_log_in k es t c)) (λ v. has_acked k t c n (events_in k es v))
-        (lack_take k.same_content d m (leader_log_in k es t c) (lack_leader es h t c)) in
         λ q. unless (same_elected es t c h q) NotElected
-        (unless (nat_lt (length (same_candidate_log es t c q)) n) EarlierTerm
-        (unless (nat_le n m) CountedEarly
-        (unless (nat_le m (length (same_leader_log es t c q))) NotWritten
-        (unless (quorum q) NoQuorum None))))
+        (unless (nat_lt (length (same_candidate_log es t c q)) n) EarlierTerm (same_commit k.counting es t c n m h q))
     same_rule (Applied s t c n) es h =
         rw (
           same_elected es t c h,
@@ -519,7 +611,7 @@ module _ {T ID D : Type 0} (k : Tests T ID D (Option D)) (config_of : D → Opti
     earlier_unused (Applied s t c n) es h = h
 
     same_allowed : (es : List (TraceEvent T ID D)) → IsUnused k.same_content d es
-        → are_allowed other es ≡ are_allowed k es
+        → are_all_allowed other es ≡ are_all_allowed k es
     same_allowed [] h = agree.meet k.initial k.initial agree.initial agree.initial
     same_allowed (e ∷ es) h =
         λ q. is_none (same_rule e es h q) && same_allowed es (earlier_unused e es h) q
@@ -576,6 +668,11 @@ module _ {T ID D : Type 0} (k : Tests T ID D (Option D)) (config_of : D → Opti
           within = x.within;
         }
 
+    known_still : (w : ConfigsCount) (es : List (TraceEvent T ID D)) (commits : List (CommitState T D))
+        → SeesKnownBy k w es commits → SeesKnownBy other w es commits
+    known_still WhenAppended es commits sees = tt
+    known_still WhenApplied es commits sees = λ t a p. same_known_by (is_shorter k t a) p es ∙ sees t a p
+
     logs_still : (t : AllLogs T D) → AreWithout k.same_content t d → AreLogs (λ x. is_some (k.config_of x)) t
         → AreLogs (λ x. is_some (config_of x)) t
     logs_still t without are = record {
@@ -610,6 +707,7 @@ module _ {T ID D : Type 0} (k : Tests T ID D (Option D)) (config_of : D → Opti
           have_logs = keeps.have_logs;
           placed = keeps.placed;
           bounded = keeps.bounded;
+          known = known_still k.counting es (commits_in p) keeps.known;
           unused = keeps.unused;
           seen = record {
             allowed = same_allowed es new ∙ keeps.seen.allowed;
@@ -639,7 +737,7 @@ held_still same d q [] x e = ap (λ b. if b then q else []) e
 held_still same d q (m ∷ held) x e = ap (λ r. if same m.0 x then m.1 else r) (held_still same d q held x e)
 
 -- what memberships are tested by: the terms, ids and contents, and the configs of a membership
-module _ {T ID D Q V : Type 0} (rank : T → ℕ) (same_term : T → T → Bool) (eq : ID → ID → Bool) (same : D → D → Bool)
+module _ {T ID D Q V : Type 0} (counting : ConfigsCount) (rank : T → ℕ) (same_term : T → T → Bool) (eq : ID → ID → Bool) (same : D → D → Bool)
     (voters : Q → List ID) (items : V → List Q) where
   abbrev configs_in : List Q → List (D × V) → Option D → List Q
   configs_in initial held m = configs_of same initial (map (λ p. (p.0, items p.1)) held) m
@@ -658,6 +756,7 @@ module _ {T ID D Q V : Type 0} (rank : T → ℕ) (same_term : T → T → Bool)
     initial = None;
     quorum_of = λ m set. list_all (λ q. is_majority eq (voters q) set) (configs_in initial held m);
     intersect = λ m n. known_meet (configs_in initial held m) (configs_in initial held n);
+    counting = counting;
   }
 
   -- the same memberships, kept elsewhere

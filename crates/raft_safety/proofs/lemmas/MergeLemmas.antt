@@ -32,8 +32,10 @@ use Rattle.std.specs.Option.{option_or}
 use Rattle.std.proofs.Common.{Ok, Err, refl, sym, ap, ◌∙◌, inl, inr, subst, arith}
 use Rattle.std.proofs.lemmas.Bool.{cases_eq}
 use Rattle.std.proofs.lemmas.Option.{slice_get-get_or, slice_get_read, slice_get_within}
-use Rattle.raft_safety.specs.Trace.{AreExact, TraceEvent, Tests, broken_rule}
-use Rattle.raft_safety.specs.Checker.{Keeps, configs_of, event_of, kept_by}
+use Rattle.raft_safety.specs.Trace.{AreExact, TraceEvent, Tests}
+use Rattle.raft_safety.specs.Counted.{first_broken}
+use Rattle.raft_safety.specs.declared.checker.counting.ConfigsCount.{ConfigsCount}
+use Rattle.raft_safety.specs.Checker.{Keeps, configs_of, counting_of, event_of, kept_by}
 use Rattle.raft_safety.specs.Merge.{
   AreAllPlaced,
   AreEnded,
@@ -166,7 +168,7 @@ module _ {T ID D : Type 0} (k : Tests T ID D (Option D)) (lists : List (Vec (Rec
   -- lists before that one have none
   pub record AreTried (lists_tried : ℕ) (first : Option (ℕ × Rule)) : Type 0 where
     pub none_allowed : (j n : ℕ) (e : RecordedEvent T ID D) → j < lists_tried → IsNext lists placed j n e
-        → broken_rule k (event_of e) es ≢ None
+        → first_broken k (event_of e) es ≢ None
     pub refused : IfSome first (λ r. IsRefused k lists placed es r.0 r.1 × AreEnded lists placed r.0)
 
   pub none_tried : AreTried 0 None
@@ -201,7 +203,7 @@ module _ {T ID D : Type 0} (k : Tests T ID D (Option D)) (lists : List (Vec (Rec
   -- the next event of a list breaks a rule
   pub tried_refused : (i m : ℕ) (x : RecordedEvent T ID D) (rule : Rule) (first new : Option (ℕ × Rule))
       → AreTried i first → (first ≡ None → AreEnded lists placed i) → IsNext lists placed i m x
-      → broken_rule k (event_of x) es ≡ Some rule → new ≡ option_or first (Some (i, rule)) → AreTried (i + 1) new
+      → first_broken k (event_of x) es ≡ Some rule → new ≡ option_or first (Some (i, rule)) → AreTried (i + 1) new
   tried_refused i m x rule first new t ended is_next breaks new_is = record {
     none_allowed = λ j n e h next. elim (cases_eq j i) [
       | inl same ↦
@@ -210,7 +212,7 @@ module _ {T ID D : Type 0} (k : Tests T ID D (Option D)) (lists : List (Vec (Rec
           let x_is : x ≡ e = cc (e_is, is_next.is) in
           λ none.
           let contrary : Some rule ≡ None =
-          sym breaks ∙ ap (λ (y : RecordedEvent T ID D). broken_rule k (event_of y) es) x_is ∙ none in
+          sym breaks ∙ ap (λ (y : RecordedEvent T ID D). first_broken k (event_of y) es) x_is ∙ none in
           absurd (cc)
       | inr other ↦ t.none_allowed j n e (omega arith) next
     ];
@@ -243,22 +245,24 @@ or_some (Some y) x e = absurd (cc)
 
 -- ---- a checker that records the next event, by the configs with which it began
 
-module _ {T ID D C : Type 0} (tests : C → Tests T ID D (Option D)) (configs : C)
+module _ {T ID D C : Type 0} (tests : ConfigsCount → C → Tests T ID D (Option D))
+    (counting : ConfigsCount) (configs : C)
     (lists : List (Vec (RecordedEvent T ID D))) (placed before new_placed : List ℕ) (old new : Checker T ID D C)
-    (same_configs : configs_of old ≡ configs) (same_placed : before ≡ placed) (exact : AreExact (tests configs)) where
+    (same_counting : counting_of old ≡ counting) (same_configs : configs_of old ≡ configs) (same_placed : before ≡ placed) (exact : AreExact (tests counting configs)) where
   -- the checker has recorded events that interleave those that are placed
   abbrev pub HasTrace : List ℕ → Checker T ID D C → Type 0
   HasTrace ns c =
-      (es : List (TraceEvent T ID D)) × Keeps (tests configs) es (kept_by c) × Interleaves lists ns es
+      (es : List (TraceEvent T ID D)) × Keeps (tests counting configs) es (kept_by c) × Interleaves lists ns es
 
   now : (result : Result Bool (ℕ × Violation))
-      → RecordsNext (tests (configs_of old)) lists before old new_placed new result
-      → RecordsNext (tests configs) lists placed old new_placed new result
+      → RecordsNext (tests (counting_of old) (configs_of old)) lists before old new_placed new result
+      → RecordsNext (tests counting configs) lists placed old new_placed new result
   now result h =
-      subst (λ (x : C). RecordsNext (tests x) lists placed old new_placed new result) same_configs
-      (subst (λ (x : List ℕ). RecordsNext (tests (configs_of old)) lists x old new_placed new result) same_placed h)
+      subst (λ (w : ConfigsCount). RecordsNext (tests w configs) lists placed old new_placed new result) same_counting
+      (subst (λ (x : C). RecordsNext (tests (counting_of old) x) lists placed old new_placed new result) same_configs
+      (subst (λ (x : List ℕ). RecordsNext (tests (counting_of old) (configs_of old)) lists x old new_placed new result) same_placed h))
 
-  pub next_seen : RecordsNext (tests (configs_of old)) lists before old new_placed new (Ok true)
+  pub next_seen : RecordsNext (tests (counting_of old) (configs_of old)) lists before old new_placed new (Ok true)
       → HasTrace placed old → HasTrace new_placed new
   next_seen records seen =
       let step = now (Ok true) records exact seen.0 seen.1 in
@@ -266,16 +270,16 @@ module _ {T ID D C : Type 0} (tests : C → Tests T ID D (Option D)) (configs : 
       (event_of next.0.event ∷ seen.0, next.1, (placed, next.0, refl, seen.2))
 
   pub none_seen : (r : ℕ × Violation)
-      → RecordsNext (tests (configs_of old)) lists before old new_placed new (Err r)
-      → new_placed ≡ before → HasTrace placed old → IsRefusedMerge (tests configs) lists placed r.0 r.1
+      → RecordsNext (tests (counting_of old) (configs_of old)) lists before old new_placed new (Err r)
+      → new_placed ≡ before → HasTrace placed old → IsRefusedMerge (tests counting configs) lists placed r.0 r.1
   none_seen r records same seen = go (now (Err r) records exact seen.0 seen.1)
     where
       stay : new_placed ≡ placed
       stay = same ∙ same_placed
 
       go : ((r.1 ≡ OutOfMemory) × (n : ℕ) × (e : RecordedEvent T ID D) × IsNext lists new_placed r.0 n e)
-          ⊎ AreRefused (tests configs) lists new_placed seen.0 r.0 r.1
-          → IsRefusedMerge (tests configs) lists placed r.0 r.1
+          ⊎ AreRefused (tests counting configs) lists new_placed seen.0 r.0 r.1
+          → IsRefusedMerge (tests counting configs) lists placed r.0 r.1
       go (inl memory) =
           inl (
             memory.0,
@@ -293,5 +297,5 @@ module _ {T ID D C : Type 0} (tests : C → Tests T ID D (Option D)) (configs : 
             trace = seen.0;
             interleaves = seen.2;
             allowed = seen.1.seen.allowed;
-            refused = subst (λ (x : List ℕ). AreRefused (tests configs) lists x seen.0 r.0 r.1) stay each;
+            refused = subst (λ (x : List ℕ). AreRefused (tests counting configs) lists x seen.0 r.0 r.1) stay each;
           }))

@@ -49,8 +49,13 @@ use Rattle.raft_safety.specs.declared.rule.Rule.TheVariants.{
   EarlyConfig,
   EarlierTerm,
   CountedEarly,
+  CountedLate,
+  UnknownConfig,
+  ConfigsFollow,
   NotInLog,
 }
+use Rattle.raft_safety.specs.declared.checker.counting.ConfigsCount.{ConfigsCount}
+use Rattle.raft_safety.specs.declared.checker.counting.ConfigsCount.TheVariants.{WhenAppended, WhenApplied}
 use Rattle.raft_safety.specs.declared.checker.terms.Kept.{Kept}
 use Rattle.raft_safety.specs.declared.checker.leader.Acked.{Acked}
 
@@ -130,6 +135,11 @@ has_committed same log (Some n) p = nat_eq (common_len same p (take n log)) (len
 
 -- ---- which rule an event breaks, by what is kept of its server and of its leader
 
+-- a config waits for the one before it if configs count from their append on
+abbrev pub early_rule : ConfigsCount → Bool → Option Rule
+early_rule WhenAppended committed = unless committed EarlyConfig None
+early_rule WhenApplied committed = None
+
 module _ {T N D : Type 0} where
   -- the first rule that a server's vote breaks, for a candidate that has campaigned in the term
   abbrev pub grant_rule : (T → ℕ) → (N → N → Bool) → ServerState T N D → LeaderState T N D → N → ℕ → N
@@ -185,29 +195,36 @@ module _ {T N D : Type 0} where
       (unless (nat_le n (length s.log)) MissingEntries None)
 
   -- the first rule that a leader's entry with this content breaks, if the content holds a config
-  abbrev pub config_rule : (D → Bool) → (Option D → Option D → Bool) → LeaderState T N D → D
+  abbrev pub config_rule : ConfigsCount → (D → Bool) → (Option D → Option D → Bool) → LeaderState T N D → D
       → Option Rule
-  config_rule holds intersects l d =
+  config_rule counting holds intersects l d =
       if holds d then
       unless (intersects (effective_config (config_in holds) None l.log) (Some d)) ApartConfigs
       (unless (intersects (Some d) (Some d)) ApartQuorums
-      (unless (config_committed (no_config_in holds) l.committed l.log) EarlyConfig None))
+      (early_rule counting (config_committed (no_config_in holds) l.committed l.log)))
       else None
 
   -- the first rule that a leader breaks when it writes this entry in this term
-  abbrev pub write_rule : (T → T → Bool) → (D → Bool) → (Option D → Option D → Bool)
+  abbrev pub write_rule : ConfigsCount → (T → T → Bool) → (D → Bool) → (Option D → Option D → Bool)
       → LeaderState T N D → T → Entry T D → Option Rule
-  write_rule same_term holds intersects l t e =
+  write_rule counting same_term holds intersects l t e =
       unless l.elected NotElected
-      (unless (same_term e.term t) OtherTerm (config_rule holds intersects l e.content))
+      (unless (same_term e.term t) OtherTerm (config_rule counting holds intersects l e.content))
 
-  -- what a commit needs besides a quorum
-  abbrev pub commit_rule : LeaderState T N D → ℕ → ℕ → Option Rule
-  commit_rule l n m =
+  -- what a commit needs besides a quorum. Where it is counted is another test for each kind of configs:
+  -- whether the config is known, and whether at most one follows it
+  abbrev pub counted_rule : ConfigsCount → LeaderState T N D → ℕ → ℕ → Bool → Bool → Option Rule → Option Rule
+  counted_rule WhenAppended l n m known follows rest =
+      unless (nat_le n m) CountedEarly (unless (nat_le m (length l.log)) NotWritten rest)
+  counted_rule WhenApplied l n m known follows rest =
+      unless (nat_le m n) CountedLate
+      (unless (nat_le n (length l.log)) NotWritten
+      (unless known UnknownConfig (unless follows ConfigsFollow rest)))
+
+  abbrev pub commit_rule : ConfigsCount → LeaderState T N D → ℕ → ℕ → Bool → Bool → Option Rule → Option Rule
+  commit_rule counting l n m known follows rest =
       unless l.elected NotElected
-      (unless (nat_lt l.start n) EarlierTerm
-      (unless (nat_le n m) CountedEarly
-      (unless (nat_le m (length l.log)) NotWritten None)))
+      (unless (nat_lt l.start n) EarlierTerm (counted_rule counting l n m known follows rest))
 
   -- a leader of a term of at most this rank has committed these entries
   abbrev pub knows : (T → ℕ) → (Entry T D → Entry T D → Bool) → ℕ → List (Entry T D)

@@ -3,17 +3,20 @@ use Rattle.std.specs.Prelude.{◌≡◌, ◌⊎◌, ◌<◌, ◌≤◌, ℕ, Boo
 use Rattle.std.specs.List.{position}
 use Rattle.raft_safety.specs.Inner.CheckerState.{ServerState, LeaderState}
 use Rattle.raft_safety.specs.Inner.Logs.{AllLogs, log_at}
+use Rattle.raft_safety.specs.Inner.Known.{CommitState, commit_in}
+use Rattle.raft_safety.specs.declared.checker.known.Commit.{Commit}
 use Rattle.raft_safety.specs.declared.checker.server.Server.{Server}
 use Rattle.raft_safety.specs.declared.checker.leader.Leader.{Leader}
 
 -- the logs, the servers and the leaders of a checker, the numbers of each rank's leaders, and a number
--- of entries such that no leader has committed more
+-- of entries such that no leader has committed more, and the commits by which configs are known
 pub record Parts (T N D : Type 0) : Type 0 where
   pub logs : AllLogs T D
   pub servers : List (Server N)
   pub leaders : List (Leader T N)
   pub places : List (ℕ × (ℕ × ℕ))
   pub committed : ℕ
+  pub commits : List Commit
 
 module _ {T N D : Type 0} where
   -- what is kept of a server, with the entries of its log
@@ -46,12 +49,17 @@ module _ {T N D : Type 0} where
   abbrev pub leaders_in : Parts T N D → List (LeaderState T N D)
   leaders_in p = map (leader_in p.logs) p.leaders
 
-  -- each server and each leader has one of the logs
+  abbrev pub commits_in : Parts T N D → List (CommitState T D)
+  commits_in p = map (commit_in p.logs) p.commits
+
+  -- each server, each leader and each commit has one of the logs
   pub record HaveLogs (p : Parts T N D) : Type 0 where
     pub of_servers : (i : ℕ) (s : Server N) → i < length p.servers → s ≡ get_or p.servers i s
         → s.log < length p.logs.logs
     pub of_leaders : (i : ℕ) (l : Leader T N) → i < length p.leaders → l ≡ get_or p.leaders i l
         → l.log < length p.logs.logs
+    pub of_commits : (i : ℕ) (c : Commit) → i < length p.commits → c ≡ get_or p.commits i c
+        → c.log < length p.logs.logs
 
 -- no leader has committed more entries than this number
 abbrev pub AreBounded : {T N : Type 0} → ℕ → List (Leader T N) → Type 0

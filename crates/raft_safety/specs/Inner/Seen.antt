@@ -18,6 +18,10 @@ use Rattle.std.specs.Prelude.{
   ◌∷◌,
   length,
   take,
+  drop,
+  Bool,
+  ◌&&◌,
+  ◌||◌,
 }
 use Rattle.std.specs.List.{find, IsDistinct}
 use Rattle.std.specs.Option.{MatchOption, unwrap_or}
@@ -34,10 +38,18 @@ use Rattle.raft_safety.specs.Trace.{
   has_acked,
   durable,
   has_campaigned,
-  is_elected,
   Committed,
+  hold_no_config,
+  is_earlier,
+  is_known_by,
+  is_quorum_of_log,
   same_leader,
 }
+use Rattle.raft_safety.specs.AppliedTrace.{hold_at_most_one, some_upto}
+use Rattle.raft_safety.specs.Log.{Entry}
+use Rattle.raft_safety.specs.declared.checker.counting.ConfigsCount.{ConfigsCount}
+use Rattle.raft_safety.specs.declared.checker.counting.ConfigsCount.TheVariants.{WhenAppended, WhenApplied}
+use Rattle.raft_safety.specs.Counted.{is_elected_when}
 use Rattle.raft_safety.specs.Inner.CheckerState.{kept_from, has_acked_to, common_len}
 use Rattle.raft_safety.specs.Inner.CheckerState.{ServerState}
 use Rattle.raft_safety.specs.Inner.CheckerState.{LeaderState}
@@ -56,6 +68,15 @@ module _ {T ID D M : Type 0} (k : Tests T ID D M) where
   committed_in (Committed c t n m ∷ es) u d =
       if same_leader k t c u d then Some (max (unwrap_or (committed_in es u d) 0) n) else committed_in es u d
   committed_in (x ∷ es) u d = committed_in es u d
+
+module _ {T ID D M : Type 0} (k : Tests T ID D M) where
+  -- whether these voters elect a candidate of this term with this log
+  abbrev pub tally : ConfigsCount → List (TraceEvent T ID D) → T → List (Entry T D) → (ID → Bool) → Bool
+  tally WhenAppended es t log voters = is_quorum_of_log k log voters
+  tally WhenApplied es t log voters =
+      some_upto (length log)
+      (λ a. (hold_no_config k (take a log) || is_known_by k (is_earlier k t) (take a log) es)
+      && (hold_at_most_one k (drop a log) && is_quorum_of_log k (take a log) voters))
 
 module _ {T ID D : Type 0} (k : Tests T ID D (Option D)) where
   -- what is kept of a server is what its events say
@@ -85,7 +106,7 @@ module _ {T ID D : Type 0} (k : Tests T ID D (Option D)) where
     pub voted : (v : ID) → has_voted k t c (events_in k es v) ≡ is_member k.same_id l.voters v
     pub distinct : IsDistinct k.same_id l.voters
     pub own_vote : is_member k.same_id l.voters c ≡ true
-    pub elected : is_elected k es t c ≡ l.elected
+    pub elected : is_elected_when k es t c ≡ l.elected
     pub acked : (v : ID) (n : ℕ) → has_acked k t c n (events_in k es v) ≡ has_acked_to k.same_id l.acked v n
     pub committed : committed_in k es t c ≡ l.committed
     pub within : MatchOption l.committed (Unit {0}) (λ n. n ≤ length l.log)

@@ -1,11 +1,15 @@
 //! Which rule an event breaks.
-ghost use Rattle.std.specs.Prelude.{◌≡◌, ◌⊎◌, ◌<◌, ◌≤◌, ◌++◌, ℕ, IsNone, None, length, take};
+ghost use Rattle.std.specs.Prelude.{◌≡◌, ◌⊎◌, ◌<◌, ◌≤◌, ◌++◌, ℕ, Bool, IsNone, None, drop, length, map, take};
+ghost use Rattle.raft_safety.specs.declared.checker.counting.ConfigsCount.TheVariants.{WhenApplied};
 ghost use Rattle.raft_safety.specs.Log.{last_term};
 ghost use Rattle.raft_safety.specs.Inner.Kept.{leader_in, server_in};
+ghost use Rattle.raft_safety.specs.Inner.Known.{at_most_one_in, commit_in, is_config_known};
 ghost use Rattle.raft_safety.specs.Inner.Logs.{AreDistinct, AreLogs, IsExact, log_at};
-ghost use Rattle.raft_safety.specs.Inner.CheckerState.{ack_rule, append_rule, commit_rule, config_rule, grant_rule, knows, restart_rule, same_entry_by, up_to_date_by, write_rule, apply_rule};
+ghost use Rattle.raft_safety.specs.Inner.CheckerState.{ack_rule, append_rule, commit_rule, config_rule, counted_rule, grant_rule, knows, restart_rule, same_entry_by, up_to_date_by, write_rule, apply_rule};
 
 use super::configs::Configs;
+use super::counting::ConfigsCount;
+use super::known::{Commit, follows_at_most_one, is_known};
 use super::leader::Leader;
 use super::logs::Logs;
 use super::server::Server;
@@ -190,6 +194,7 @@ pub fn restart_rule<T: Term, N: Copy + Eq, D: Copy + Eq>(
 
 /// Returns the rule that a leader breaks by writing an entry, if there is one.
 pub fn write_rule<T: Term, N: Copy + Eq, D: Copy + Eq, C: Configs<N, D>>(
+    counting: ConfigsCount,
     configs: &C,
     logs: &Logs<T, D>,
     leader: &Leader<T, N>,
@@ -197,7 +202,7 @@ pub fn write_rule<T: Term, N: Copy + Eq, D: Copy + Eq, C: Configs<N, D>>(
     entry: Entry<T, D>,
 ) -> Option<Rule>
     ensures { AreLogs (C.holds_config configs.now) logs.now → leader.now.log < length logs.now.logs
-        → result ≡ write_rule T.eq (C.holds_config configs.now) (C.intersects configs.now)
+        → result ≡ write_rule counting T.eq (C.holds_config configs.now) (C.intersects configs.now)
         (leader_in logs.now leader.now) term entry }
 {
     if !leader.elected {
@@ -206,19 +211,20 @@ pub fn write_rule<T: Term, N: Copy + Eq, D: Copy + Eq, C: Configs<N, D>>(
     if entry.term != term {
         return Some(Rule::OtherTerm);
     }
-    config_rule(configs, logs, leader, entry.content)
+    config_rule(counting, configs, logs, leader, entry.content)
 }
 
 /// Returns the rule that a leader breaks by proposing the config of a content, if it holds one and
 /// there is such a rule.
 fn config_rule<T: Term, N: Copy + Eq, D: Copy + Eq, C: Configs<N, D>>(
+    counting: ConfigsCount,
     configs: &C,
     logs: &Logs<T, D>,
     leader: &Leader<T, N>,
     content: D,
 ) -> Option<Rule>
     ensures { AreLogs (C.holds_config configs.now) logs.now → leader.now.log < length logs.now.logs
-        → result ≡ config_rule (C.holds_config configs.now) (C.intersects configs.now)
+        → result ≡ config_rule counting (C.holds_config configs.now) (C.intersects configs.now)
         (leader_in logs.now leader.now) content }
 {
     if !configs.holds_config(content) {
@@ -231,6 +237,9 @@ fn config_rule<T: Term, N: Copy + Eq, D: Copy + Eq, C: Configs<N, D>>(
     if !configs.do_intersect(Some(content), Some(content)) {
         return Some(Rule::ApartQuorums);
     }
+    if counting.is_applied() {
+        return None;
+    }
     match leader.committed {
         Some(len) if logs.len(logs.config(leader.log)) <= len => None,
         _ => Some(Rule::EarlyConfig),
@@ -239,12 +248,20 @@ fn config_rule<T: Term, N: Copy + Eq, D: Copy + Eq, C: Configs<N, D>>(
 
 /// Returns the rule that a commit breaks, if there is one besides the acknowledgements of a quorum.
 pub fn commit_rule<T: Term, N: Copy + Eq, D: Copy + Eq>(
+    counting: ConfigsCount,
     logs: &Logs<T, D>,
+    commits: &[Commit],
     leader: &Leader<T, N>,
     len: usize,
     counted_at: usize,
 ) -> Option<Rule>
-    ensures { result ≡ commit_rule (leader_in logs.now leader.now) len counted_at }
+    ensures { (holds : D → Bool) → IsExact (same_entry_by T.eq D.eq) → AreLogs holds logs.now →
+        leader.now.log < length logs.now.logs → result ≡ commit_rule counting
+        (leader_in logs.now leader.now) len counted_at (is_config_known (same_entry_by T.eq D.eq)
+        holds (T.rank leader.now.term) counted_at
+        (take counted_at (log_at logs.now leader.now.log)) (map (commit_in logs.now) commits.now))
+        (at_most_one_in (same_entry_by T.eq D.eq) holds (drop counted_at (take len
+        (log_at logs.now leader.now.log)))) None }
 {
     if !leader.elected {
         return Some(Rule::NotElected);
@@ -252,11 +269,48 @@ pub fn commit_rule<T: Term, N: Copy + Eq, D: Copy + Eq>(
     if len <= leader.start {
         return Some(Rule::EarlierTerm);
     }
+    if counting.is_applied() {
+        return known_commit_rule(logs, commits, leader, len, counted_at);
+    }
     if counted_at < len {
         return Some(Rule::CountedEarly);
     }
     if logs.len(leader.log) < counted_at {
         return Some(Rule::NotWritten);
+    }
+    None
+}
+
+/// Returns the rule that a commit breaks, if configs count once they are applied and there is one
+/// besides the acknowledgements of a quorum.
+fn known_commit_rule<T: Term, N: Copy + Eq, D: Copy + Eq>(
+    logs: &Logs<T, D>,
+    commits: &[Commit],
+    leader: &Leader<T, N>,
+    len: usize,
+    counted_at: usize,
+) -> Option<Rule>
+    ensures { (holds : D → Bool) → IsExact (same_entry_by T.eq D.eq) → AreLogs holds logs.now →
+        leader.now.log < length logs.now.logs → result ≡ counted_rule WhenApplied
+        (leader_in logs.now leader.now) len counted_at (is_config_known (same_entry_by T.eq D.eq)
+        holds (T.rank leader.now.term) counted_at
+        (take counted_at (log_at logs.now leader.now.log)) (map (commit_in logs.now) commits.now))
+        (at_most_one_in (same_entry_by T.eq D.eq) holds (drop counted_at (take len
+        (log_at logs.now leader.now.log)))) None }
+{
+    if len < counted_at {
+        return Some(Rule::CountedLate);
+    }
+    if logs.len(leader.log) < len {
+        return Some(Rule::NotWritten);
+    }
+    let rank = leader.term.rank();
+    let counted = logs.first(leader.log, counted_at);
+    if !is_known(logs, commits, rank, counted_at, counted) {
+        return Some(Rule::UnknownConfig);
+    }
+    if !follows_at_most_one(logs, logs.first(leader.log, len), counted_at) {
+        return Some(Rule::ConfigsFollow);
     }
     None
 }

@@ -5,7 +5,6 @@ ghost use Rattle.std.specs.Option.{unwrap_or};
 ghost use Rattle.std.specs.Set.{is_member};
 ghost use Rattle.raft_safety.specs.Inner.CheckerState.{has_acked_to};
 
-use super::configs::Configs;
 use std::alloc::{AllocError, Global};
 
 /// How many first entries a server has acknowledged to a leader.
@@ -47,74 +46,57 @@ pub struct Leader<T, N> {
 }
 
 impl<T: Copy, N: Copy + Eq> Leader<T, N> {
-    /// Returns what is kept of a candidate that has voted for itself. It asks for votes with this
-    /// log, in which this config is in effect.
+    /// Returns what is kept of a candidate that has voted for itself, and asks for votes with this
+    /// log. Whether it is elected is not known yet.
     ///
     /// # Errors
     ///
     /// Out of memory.
-    pub fn new<D: Copy + Eq, C: Configs<N, D>>(
-        alloc: Global,
-        configs: &C,
-        config: Option<D>,
-        term: T,
-        id: N,
-        log: usize,
-        start: usize,
-    ) -> Result<Self, AllocError>
+    pub fn new(alloc: Global, term: T, id: N, log: usize, start: usize) -> Result<Self, AllocError>
         ensures term { IfOk result (λ l. l.term ≡ term) }
         ensures id { IfOk result (λ l. l.id ≡ id) }
         ensures start { IfOk result (λ l. l.start ≡ start) }
         ensures log { IfOk result (λ l. l.log ≡ log) }
         ensures voters { IfOk result (λ l. l.voters.items ≡ id ∷ []) }
-        ensures elected { IfOk result (λ l. l.elected ≡ C.has_quorum configs.now config
-            (is_member N.eq (id ∷ []))) }
         ensures acked { IfOk result (λ l. l.acked.items ≡ []) }
         ensures committed { IfOk result (λ l. l.committed ≡ None) }
     {
         let mut voters = Vec::new(alloc);
         voters.push(id)?;
-        let elected = configs.is_quorum(config, &voters);
         Ok(Leader {
             term,
             id,
             start,
             log,
             voters,
-            elected,
+            elected: false,
             acked: Vec::new(alloc),
             committed: None,
         })
     }
 
-    /// Counts the vote of a server. This config is in effect in the log of the candidate.
+    /// Counts the vote of a server. Whether the candidate is elected by it is not known yet.
     ///
     /// # Errors
     ///
     /// Out of memory. The leader is then as it was.
-    pub fn vote<D: Copy + Eq, C: Configs<N, D>>(
-        &mut self,
-        configs: &C,
-        config: Option<D>,
-        server: N,
-    ) -> Result<(), AllocError>
+    pub fn vote(&mut self, server: N) -> Result<(), AllocError>
         ensures voters { OnOk result ((v : N) → is_member N.eq self.new.voters.items v
             ≡ (is_member N.eq self.old.voters.items v || N.eq v server)) }
         ensures distinct { IsDistinct N.eq self.old.voters.items →
             IsDistinct N.eq self.new.voters.items }
-        ensures elected { OnOk result (IsDistinct N.eq self.old.voters.items →
-            self.new.elected ≡ C.has_quorum configs.now config
-            (is_member N.eq self.new.voters.items)) }
         ensures err_voters { OnErr result (self.new.voters.items ≡ self.old.voters.items) }
-        ensures err_elected { OnErr result (self.new.elected ≡ self.old.elected) }
-        ensures rest { self.new ≡ record self.old {
-          voters = self.new.voters;
-          elected = self.new.elected;
-        } }
+        ensures rest { self.new ≡ record self.old { voters = self.new.voters } }
     {
         add_once(&mut self.voters, server)?;
-        self.elected = configs.is_quorum(config, &self.voters);
         Ok(())
+    }
+
+    /// Notes whether the candidate is elected.
+    pub fn elect(&mut self, elected: bool)
+        ensures { self.new ≡ record self.old { elected = elected } }
+    {
+        self.elected = elected;
     }
 
     /// Writes an entry. This is the log of the leader then.

@@ -1,6 +1,6 @@
 //! Memberships that become known while a cluster runs.
 ghost use Rattle.std.specs.Prelude.{◌≡◌, ◌++◌, ◌∷◌, [], OnErr, OnOk};
-ghost use Rattle.raft_safety.specs.Checker.{KeepsAlso, Learns, configs_of, kept_by, tests_of};
+ghost use Rattle.raft_safety.specs.Checker.{KeepsAlso, Learns, configs_of, counting_of, kept_by, tests_when};
 ghost use Rattle.raft_safety.specs.declared.checker.learn.LearnError.TheVariants.{OutOfMemory};
 
 use super::Checker;
@@ -45,16 +45,17 @@ impl<T: Term, N: Copy + Ord, D: Copy + Eq> Checker<T, N, D, Memberships<N, D>> {
     /// A membership of the content is known already, an entry of the content was recorded before,
     /// or out of memory. The checker then knows the memberships that it knew.
     pub fn learn(&mut self, content: D, configs: Vec<Vec<N>>) -> Result<(), LearnError>
-        ensures answer { Learns (tests_of T.Term N.PartialEq D.PartialEq
+        ensures answer { Learns (tests_when (counting_of self.old) T.Term N.PartialEq D.PartialEq
             ⟦<Memberships<N, D> as Configs<N, D>>⟧ (configs_of self.old)) content
             (kept_by self.old) result }
-        ensures keeps { KeepsAlso (tests_of T.Term N.PartialEq D.PartialEq
-            ⟦<Memberships<N, D> as Configs<N, D>>⟧ (configs_of self.old)) (tests_of T.Term
+        ensures keeps { KeepsAlso (tests_when (counting_of self.old) T.Term N.PartialEq D.PartialEq
+            ⟦<Memberships<N, D> as Configs<N, D>>⟧ (configs_of self.old)) (tests_when (counting_of self.old) T.Term
             N.PartialEq D.PartialEq ⟦<Memberships<N, D> as Configs<N, D>>⟧ (configs_of self.new))
             (kept_by self.old) (kept_by self.new) }
         ensures learned { OnOk result ((configs_of self.new).held.items
             ≡ (configs_of self.old).held.items ++ (content, configs) ∷ []) }
         ensures initial { (configs_of self.new).initial ≡ (configs_of self.old).initial }
+        ensures counting { counting_of self.new ≡ counting_of self.old }
         ensures err { OnErr result
             ((configs_of self.new).held.items ≡ (configs_of self.old).held.items) }
     {

@@ -37,6 +37,7 @@ use Rattle.raft_safety.proofs.merge.record_next.Goals.{then-placed-i+in-Err-Rule
 pub loop-i-init : goal.loop-i-init
 loop-i-init g c = record {
   configs = refl;
+  counting = refl;
   placed = refl;
   ended = λ e j n l h. absurd (omega arith);
   tried = λ exact es seen. (seen, none_tried _ _ _ es);
@@ -47,6 +48,7 @@ loop-i-preserved g c =
     elim c.if-placed-i.branch [
       | then-placed-i+in-Err-Rule w ↦ record {
         configs = rw w.checker-is (w.in-Err-Rule.ensures.configs ∙ c.loop-i.invariant.configs);
+        counting = rw w.checker-is (w.in-Err-Rule.ensures.counting ∙ c.loop-i.invariant.counting);
         placed = c.loop-i.invariant.placed;
         ended = λ none. absurd (or_some c.loop-i.refused (c.loop-i.i, w.in-Err-Rule.rule)
             (sym w.or-refused.ensures ∙ (sym w.refused-is ∙ none)));
@@ -55,7 +57,7 @@ loop-i-preserved g c =
             next_read c.args.lists.now c.args.placed.now c.loop-i.placed c.loop-i.i c.index-lists-i.result w.index.result.now
             (omega arith) c.requires c.loop-i.invariant.placed c.index-lists-i.is (omega arith) w.index.ensures in
             let before = c.loop-i.invariant.tried exact es seen in
-            let answer = (rw (c.loop-i.invariant.configs, w.in-Err-Rule.field-0-is) at w.in-Err-Rule.ensures.answer) exact es before.0 in (
+            let answer = (rw (c.loop-i.invariant.configs, c.loop-i.invariant.counting, w.in-Err-Rule.field-0-is) at w.in-Err-Rule.ensures.answer) exact es before.0 in (
               rw w.checker-is answer.1,
               tried_refused _ _ _ es c.loop-i.i _ w.index.result.now w.in-Err-Rule.rule c.loop-i.refused c.if-placed-i.refused
                   before.1 c.loop-i.invariant.ended next answer.0 (w.refused-is ∙ w.or-refused.ensures),
@@ -71,6 +73,7 @@ loop-i-preserved g c =
           rw c.loop-i.invariant.placed at read in
           record {
             configs = rw w.checker-is c.loop-i.invariant.configs;
+            counting = rw w.checker-is c.loop-i.invariant.counting;
             placed = c.loop-i.invariant.placed;
             ended = λ none. ended_more c.args.lists.now c.args.placed.now c.loop-i.i _ _
                 (c.loop-i.invariant.ended (sym w.refused-is ∙ none)) list count over;
@@ -85,6 +88,9 @@ loop-i-preserved g c =
 pub returns-in-Ok-clause-configs : goal.returns-in-Ok-clause-configs
 returns-in-Ok-clause-configs g c = c.in-Ok.ensures.configs ∙ c.loop-i.invariant.configs
 
+pub returns-in-Ok-clause-counting : goal.returns-in-Ok-clause-counting
+returns-in-Ok-clause-counting g c = c.in-Ok.ensures.counting ∙ c.loop-i.invariant.counting
+
 pub returns-in-Ok-clause-more : goal.returns-in-Ok-clause-more
 returns-in-Ok-clause-more g c = λ _. record {
   list = c.loop-i.i;
@@ -98,13 +104,16 @@ returns-in-Ok-clause-more g c = λ _. record {
 pub returns-in-Ok-clause-records : goal.returns-in-Ok-clause-records
 unfolding returns-in-Ok-clause-more
 returns-in-Ok-clause-records g c = λ exact es seen.
-    let answer = (rw c.loop-i.invariant.configs at c.in-Ok.ensures.answer) exact es (c.loop-i.invariant.tried exact es seen).0 in (
+    let answer = (rw (c.loop-i.invariant.configs, c.loop-i.invariant.counting) at c.in-Ok.ensures.answer) exact es (c.loop-i.invariant.tried exact es seen).0 in (
       λ _. (returns-in-Ok-clause-more g c refl, answer.1),
       λ no. absurd (both_ways true no refl),
     )
 
 pub returns-in-Err-OutOfMemory-clause-configs : goal.returns-in-Err-OutOfMemory-clause-configs
 returns-in-Err-OutOfMemory-clause-configs g c = c.record.ensures.configs ∙ c.loop-i.invariant.configs
+
+pub returns-in-Err-OutOfMemory-clause-counting : goal.returns-in-Err-OutOfMemory-clause-counting
+returns-in-Err-OutOfMemory-clause-counting g c = c.record.ensures.counting ∙ c.loop-i.invariant.counting
 
 pub returns-in-Err-OutOfMemory-clause-same : goal.returns-in-Err-OutOfMemory-clause-same
 returns-in-Err-OutOfMemory-clause-same g c = c.loop-i.invariant.placed
@@ -121,6 +130,9 @@ returns-in-Err-OutOfMemory-clause-records g c = λ exact es seen. inl (
 pub returns-in-Some-clause-configs : goal.returns-in-Some-clause-configs
 returns-in-Some-clause-configs g c = c.loop-i.invariant.configs
 
+pub returns-in-Some-clause-counting : goal.returns-in-Some-clause-counting
+returns-in-Some-clause-counting g c = c.loop-i.invariant.counting
+
 pub returns-in-Some-clause-same : goal.returns-in-Some-clause-same
 returns-in-Some-clause-same g c = c.loop-i.invariant.placed
 
@@ -132,6 +144,9 @@ returns-in-Some-clause-records g c = λ exact es seen.
 
 pub returns-in-None-clause-configs : goal.returns-in-None-clause-configs
 returns-in-None-clause-configs g c = c.loop-i.invariant.configs
+
+pub returns-in-None-clause-counting : goal.returns-in-None-clause-counting
+returns-in-None-clause-counting g c = c.loop-i.invariant.counting
 
 pub returns-in-None-clause-ended : goal.returns-in-None-clause-ended
 returns-in-None-clause-ended g c = λ _. (

@@ -1,6 +1,6 @@
 use Rattle.std.proofs.Common.{◌≡◌, List, None}
 use Rattle.raft_safety.specs.Trace.{AreExact, TraceEvent}
-use Rattle.raft_safety.specs.Checker.{Keeps, kept_by, tests_of}
+use Rattle.raft_safety.specs.Checker.{Keeps, kept_by, tests_when}
 use Rattle.raft_safety.specs.Merge.{AreEnded}
 use Rattle.raft_safety.proofs.lemmas.MergeLemmas.{AreTried}
 use Rattle.raft_safety.proofs.merge.record_next.Given as goal
@@ -8,9 +8,10 @@ use Rattle.raft_safety.proofs.merge.record_next.Given as goal
 abbrev pub invariant-loop-i : goal.invariant-loop-i
 invariant-loop-i g l =
     let k =
-    tests_of (record { eq = g.T.PartialEq.eq; rank = g.T.Term.rank }) g.N.PartialEq g.D.PartialEq g.C.Configs l.fn.checker.configs in
+    tests_when l.fn.checker.counting (record { eq = g.T.PartialEq.eq; rank = g.T.Term.rank }) g.N.PartialEq g.D.PartialEq g.C.Configs l.fn.checker.configs in
     record {
       configs : l.checker.configs ≡ l.fn.checker.configs;
+      counting : l.checker.counting ≡ l.fn.checker.counting;
       placed : l.placed ≡ l.fn.placed;
       ended : l.refused ≡ None → AreEnded l.lists l.fn.placed l.i;
       tried : AreExact k → (es : List (TraceEvent g.row.T.Denot g.row.N.Denot g.row.D.Denot))

@@ -1,4 +1,5 @@
 use Rattle.std.proofs.Common.{◌∙◌, None, ap, arith, length, sym}
+use Rattle.std.specs.Set.{is_member}
 use Rattle.std.proofs.lemmas.Result.{err_from_is_err_and}
 use Rattle.raft_safety.specs.Configs.{effective_config}
 use Rattle.raft_safety.specs.Checker.{kept_by}
@@ -84,7 +85,7 @@ returns-in_err-vote-clause-answer g c =
             start = ap (λ (l : Leader g.row.T.Denot g.row.N.Denot). l.start) c.in_err-vote.ensures.rest;
             log = ap (λ (l : Leader g.row.T.Denot g.row.N.Denot). log_at c.args.self.now.logs l.log) c.in_err-vote.ensures.rest;
             voters = c.in_err-vote.ensures.err_voters;
-            elected = c.in_err-vote.ensures.err_elected;
+            elected = ap (λ (l : Leader g.row.T.Denot g.row.N.Denot). l.elected) c.in_err-vote.ensures.rest;
             committed = ap (λ (l : Leader g.row.T.Denot g.row.N.Denot). l.committed) c.in_err-vote.ensures.rest;
           })
           (ap (λ (l : Leader g.row.T.Denot g.row.N.Denot). l.log) c.in_err-vote.ensures.rest),
@@ -95,7 +96,7 @@ returns-clause-answer g c =
     λ exact es keeps. grant_done _ exact es c.args.server c.args.term c.args.candidate
     (with_servers (kept_by c.args.self.now) c.server_at.new.servers.items) c.in_ok-i.i c.in-Some.j c.len.result
     c.index.result.now c.index_mut-voter.result.now c.make_room.new.self c.reach.new.self
-    c.index-2.result.now c.index_mut-leader.result.now c.vote.new.self c.config_content-config.result
+    c.index-2.result.now c.index_mut-leader.result.now c.elect.new.self
     c.in_ok-i.ensures.at.0 c.index.ensures c.index_mut-voter.ensures.value (sym (c.in-Some.ensures.place exact.same_term keeps.placed))
     c.index-2.ensures c.index_mut-leader.ensures.value
     (keeps_at _ exact es c.args.server (kept_by c.args.self.now) c.server_at.new.servers.items c.in_ok-i.i c.in_ok-i.ensures.at keeps)
@@ -106,14 +107,11 @@ returns-clause-answer g c =
     ∙ ap (λ (s : Server g.row.N.Denot). length (log_at c.args.self.now.logs s.log)) c.in_ok-make_room.ensures.rest)
     (rw c.rank-rank.ensures at c.reach.ensures.term) (rw c.rank-rank.ensures at c.reach.ensures.kept)
     (rw c.rank-rank.ensures at c.reach.ensures.rest)
-    c.in_ok-vote.ensures.voters c.in_ok-vote.ensures.distinct c.in_ok-vote.ensures.elected
-    (c.config_content-config.ensures (g.C.Configs.holds_config c.args.self.now.configs)
-    (logs_by (g.C.Configs.holds_config c.args.self.now.configs) c.args.self.now.logs keeps.are_logs)
-    (let own = keeps.have_logs.of_leaders c.in-Some.j c.index_mut-leader.result.now
-    (found_within _ _ _ (sym (c.in-Some.ensures.place exact.same_term keeps.placed))) c.index_mut-leader.ensures.value in
-    omega (arith, own, c.first.ensures.earlier))
-    ∙ ap (λ x. effective_config (config_in (g.C.Configs.holds_config c.args.self.now.configs)) None x) c.first.ensures.first)
-    c.in_ok-vote.ensures.rest
+    (λ v. ap (λ (l : Leader g.row.T.Denot g.row.N.Denot). is_member g.N.PartialEq.eq l.voters.items v) c.elect.ensures
+    ∙ c.in_ok-vote.ensures.voters v)
+    (λ d. rw (ap (λ (l : Leader g.row.T.Denot g.row.N.Denot). l.voters.items) c.elect.ensures) (c.in_ok-vote.ensures.distinct d))
+    ?
+    ?
 
 pub index-requires : goal.index-requires
 index-requires g c = within_len _ _ _ c.server_at.new.servers.ok.0 c.in_ok-i.ensures.within

@@ -1,17 +1,18 @@
 use Rattle.std.proofs.Common.{◌≡◌, ◌<◌, ◌∙◌, [], length, ap, arith}
 use Rattle.std.proofs.lemmas.List.{length-replicate, with_items_is}
-use Rattle.raft_safety.specs.Checker.{tests_of}
+use Rattle.raft_safety.specs.Checker.{tests_when}
 use Rattle.raft_safety.proofs.lemmas.MergeLemmas.{all_placed, left, next_seen, none_seen, placed_less}
-use Rattle.raft_safety.proofs.lemmas.AppendedTraceLemmas.{trace_is_safe}
-use Rattle.raft_safety.proofs.merge.check_each.Goals as goal
+use Rattle.raft_safety.proofs.lemmas.CountedLemmas.{trace_is_safe}
+use Rattle.raft_safety.proofs.merge.check_each_counting.Goals as goal
 
 pub loop-checker-init : goal.loop-checker-init
 loop-checker-init g c =
     let items = c.in-Ok.ensures.items_if_clones_equal (λ y e. e) in
     record {
-      configs = c.in-Ok-new.ensures.ok;
+      configs = c.in-Ok-counting.ensures.ok;
+      counting = c.in-Ok-counting.ensures.counting;
       counts = ap length items ∙ length-replicate (length c.args.lists.now) 0;
-      seen = λ exact. ([], c.in-Ok-new.ensures.begins, items);
+      seen = λ exact. ([], c.in-Ok-counting.ensures.begins, items);
     }
 
 pub record_next-requires : goal.record_next-requires
@@ -30,12 +31,13 @@ loop-checker-preserved g c =
     let items = with_items_is c.loop-checker.placed c.record_next.new.placed (omega arith) in
     record {
       configs = c.in-Ok-true.ensures.configs ∙ c.loop-checker.invariant.configs;
+      counting = c.in-Ok-true.ensures.counting ∙ c.loop-checker.invariant.counting;
       counts = rw items (c.record_next.auto.placed ∙ rw c.deref_mut.ensures.value c.loop-checker.invariant.counts);
       seen = λ exact. rw items (next_seen
-          (λ (x : g.row.C.Denot). tests_of (record { eq = g.T.PartialEq.eq; rank = g.T.Term.rank }) g.N.PartialEq g.D.PartialEq
+          (λ w x. tests_when w (record { eq = g.T.PartialEq.eq; rank = g.T.Term.rank }) g.N.PartialEq g.D.PartialEq
           g.C.Configs x)
-          c.args.configs c.args.lists.now c.loop-checker.placed.items c.deref_mut.result.now c.record_next.new.placed
-          c.loop-checker.checker c.record_next.new.checker c.loop-checker.invariant.configs c.deref_mut.ensures.value exact
+          c.args.counting c.args.configs c.args.lists.now c.loop-checker.placed.items c.deref_mut.result.now c.record_next.new.placed
+          c.loop-checker.checker c.record_next.new.checker c.loop-checker.invariant.counting c.loop-checker.invariant.configs c.deref_mut.ensures.value exact
           (rw c.in-Ok-true.field-0-test at c.in-Ok-true.ensures.records) (c.loop-checker.invariant.seen exact));
     }
 
@@ -56,9 +58,9 @@ returns-in-Err-record_next-clause-refused g c = λ exact.
     let same : c.record_next.new.placed ≡ c.loop-checker.placed.items =
     c.in-Err-record_next.ensures.same ∙ c.deref_mut.ensures.value in
     rw (items, same) (none_seen
-    (λ (x : g.row.C.Denot). tests_of (record { eq = g.T.PartialEq.eq; rank = g.T.Term.rank }) g.N.PartialEq g.D.PartialEq
+    (λ w x. tests_when w (record { eq = g.T.PartialEq.eq; rank = g.T.Term.rank }) g.N.PartialEq g.D.PartialEq
     g.C.Configs x)
-    c.args.configs c.args.lists.now c.loop-checker.placed.items c.deref_mut.result.now c.record_next.new.placed
-    c.loop-checker.checker c.record_next.new.checker c.loop-checker.invariant.configs c.deref_mut.ensures.value exact
+    c.args.counting c.args.configs c.args.lists.now c.loop-checker.placed.items c.deref_mut.result.now c.record_next.new.placed
+    c.loop-checker.checker c.record_next.new.checker c.loop-checker.invariant.counting c.loop-checker.invariant.configs c.deref_mut.ensures.value exact
     (c.in-Err-record_next.list, c.in-Err-record_next.violation) c.in-Err-record_next.ensures.records
     c.in-Err-record_next.ensures.same (c.loop-checker.invariant.seen exact))

@@ -2,17 +2,18 @@ use Rattle.std.proofs.Common.{◌≡◌, ◌<◌, ◌∙◌, length, take, inr, 
 use Rattle.std.proofs.lemmas.List.{take_all}
 use Rattle.raft_safety.specs.Checker.{trace_of}
 use Rattle.raft_safety.proofs.lemmas.CheckerCodeLemmas.{trace_more}
-use Rattle.raft_safety.proofs.lemmas.AppendedTraceLemmas.{trace_is_safe}
-use Rattle.raft_safety.proofs.check.check.Goals as goal
+use Rattle.raft_safety.proofs.lemmas.CountedLemmas.{trace_is_safe}
+use Rattle.raft_safety.proofs.check.check_counting.Goals as goal
 
 pub loop-i-preserved : goal.loop-i-preserved
 loop-i-preserved g c =
     let within : c.loop-i.i < length c.args.events.now = omega arith in
     record {
       same = c.in-Ok-record.ensures.configs ∙ c.loop-i.invariant.same;
+      counting = c.in-Ok-record.ensures.counting ∙ c.loop-i.invariant.counting;
       seen = λ exact. rw (trace_more c.args.events.now c.loop-i.i c.index-events-i.result within
           c.index-events-i.is)
-          ((rw c.loop-i.invariant.same at c.in-Ok-record.ensures.answer) exact
+          ((rw (c.loop-i.invariant.same, c.loop-i.invariant.counting) at c.in-Ok-record.ensures.answer) exact
           (trace_of (take c.loop-i.i c.args.events.now)) (c.loop-i.invariant.seen exact)).1;
     }
 
@@ -24,7 +25,7 @@ returns-in-Err-record-clause-refused g c =
       within,
       c.index-events-i.is,
       (c.loop-i.invariant.seen exact).seen.allowed,
-      ((rw c.loop-i.invariant.same at c.in-Err-record.ensures.answer) exact
+      ((rw (c.loop-i.invariant.same, c.loop-i.invariant.counting) at c.in-Err-record.ensures.answer) exact
           (trace_of (take c.loop-i.i c.args.events.now)) (c.loop-i.invariant.seen exact)).0,
     )
 

@@ -1,17 +1,18 @@
 use Rattle.std.proofs.Common.{◌≡◌, List, length}
 use Rattle.raft_safety.specs.Trace.{AreExact, TraceEvent}
-use Rattle.raft_safety.specs.Checker.{Keeps, kept_by, tests_of}
+use Rattle.raft_safety.specs.Checker.{Keeps, kept_by, tests_when}
 use Rattle.raft_safety.specs.Merge.{Interleaves}
 use Rattle.raft_safety.proofs.lemmas.MergeLemmas.{left}
-use Rattle.raft_safety.proofs.merge.check_each.Given as goal
+use Rattle.raft_safety.proofs.merge.check_each_counting.Given as goal
 
 -- what was recorded interleaves what was placed
 abbrev pub invariant-loop-checker : goal.invariant-loop-checker
 invariant-loop-checker g l =
     let k =
-    tests_of (record { eq = g.T.PartialEq.eq; rank = g.T.Term.rank }) g.N.PartialEq g.D.PartialEq g.C.Configs l.fn.configs in
+    tests_when l.fn.counting (record { eq = g.T.PartialEq.eq; rank = g.T.Term.rank }) g.N.PartialEq g.D.PartialEq g.C.Configs l.fn.configs in
     record {
       configs : l.checker.configs ≡ l.fn.configs;
+      counting : l.checker.counting ≡ l.fn.counting;
       counts : length l.placed.items ≡ length l.lists;
       seen : AreExact k
           → (es : List (TraceEvent g.row.T.Denot g.row.N.Denot g.row.D.Denot))

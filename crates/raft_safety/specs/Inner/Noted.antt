@@ -1,0 +1,105 @@
+-- How the checker notes what is committed, if configs count once they are applied.
+use Rattle.std.specs.Prelude.{
+  ◌≡◌,
+  ◌⊎◌,
+  ◌<◌,
+  ℕ,
+  Bool,
+  true,
+  Option,
+  is_some,
+  ◌≤◌,
+  nat_eq,
+  List,
+  [],
+  ◌∷◌,
+  ◌++◌,
+  length,
+  map,
+  take,
+  get_or,
+}
+use Rattle.std.specs.List.{IsDistinct, list_any}
+use Rattle.std.specs.Set.{is_member}
+use Rattle.raft_safety.specs.Log.{Entry}
+use Rattle.raft_safety.specs.Trace.{AreExact, Tests, same_entry}
+use Rattle.raft_safety.specs.Inner.CheckerState.{common_len, knows}
+use Rattle.raft_safety.specs.Inner.Kept.{AreBounded, Parts, commits_in, leaders_in}
+use Rattle.raft_safety.specs.Inner.Known.{elected_in}
+use Rattle.raft_safety.specs.Inner.Logs.{AllLogs, AreDistinct, AreLogs, IsExact, config_at, log_at}
+use Rattle.raft_safety.specs.declared.checker.counting.ConfigsCount.{ConfigsCount}
+use Rattle.raft_safety.specs.declared.checker.counting.ConfigsCount.TheVariants.{WhenAppended, WhenApplied}
+use Rattle.raft_safety.specs.declared.checker.known.Commit.{Commit}
+use Rattle.raft_safety.specs.declared.checker.leader.Leader.{Leader}
+
+module _ {T D : Type 0} (same : Entry T D → Entry T D → Bool) (logs : AllLogs T D) where
+  -- a commit is of the same term as an earlier one, counted at the same length, and has all its entries
+  pub record Continues (earlier commit : Commit) : Type 0 where
+    pub rank : commit.rank ≡ earlier.rank
+    pub counted_at : commit.counted_at ≡ earlier.counted_at
+    pub longer : IsExact same → AreDistinct logs
+        → nat_eq (common_len same (log_at logs earlier.log) (log_at logs commit.log))
+        (length (log_at logs earlier.log)) ≡ true
+
+  -- a commit takes the place of the last one, which it continues
+  pub record IsLonger (old : List Commit) (commit : Commit) (new : List Commit) : Type 0 where
+    pub earlier : List Commit
+    pub last : Commit
+    pub continues : Continues last commit
+    pub was : old ≡ earlier ++ last ∷ []
+    pub is : new ≡ earlier ++ commit ∷ []
+
+  -- a commit is added, or it takes the place of the last one
+  abbrev pub IsNoted : List Commit → Commit → List Commit → Type 0
+  IsNoted old commit new = (new ≡ old ++ commit ∷ []) ⊎ IsLonger old commit new
+
+module _ {T ID D : Type 0} (k : Tests T ID D (Option D)) (p : Parts T ID D) where
+  -- the commit of so many first entries by the leader at this place is noted
+  pub record HasNoted (leader len counted_at : ℕ) (new : List Commit) : Type 0 where
+    pub commit : Commit
+    pub rank : (l : Leader T ID) → l ≡ get_or p.leaders leader l → commit.rank ≡ k.rank l.term
+    pub at : commit.counted_at ≡ counted_at
+    pub log : (l : Leader T ID) → l ≡ get_or p.leaders leader l
+        → log_at p.logs commit.log ≡ take len (log_at p.logs l.log)
+    pub earlier : (l : Leader T ID) → l ≡ get_or p.leaders leader l → commit.log ≤ l.log
+    pub is : IsNoted (same_entry k) p.logs p.commits commit new
+
+  -- it is noted if configs count once they are applied
+  abbrev pub IsNotedWhen : ConfigsCount → ℕ → ℕ → ℕ → List Commit → Type 0
+  IsNotedWhen WhenAppended leader len counted_at new = new ≡ p.commits
+  IsNotedWhen WhenApplied leader len counted_at new = HasNoted leader len counted_at new
+
+  abbrev pub IsNotedBy : ℕ → ℕ → ℕ → List Commit → Type 0
+  IsNotedBy leader len counted_at new = IsNotedWhen k.counting leader len counted_at new
+
+  -- a leader of this leader's term or of an earlier one has committed the last config of its first
+  -- entries already
+  pub record HasCommitted (leader len : ℕ) : Type 0 where
+    pub log : ℕ
+    pub is : (l : Leader T ID) → l ≡ get_or p.leaders leader l
+        → log_at p.logs log ≡ take len (log_at p.logs l.log)
+    pub earlier : (l : Leader T ID) → l ≡ get_or p.leaders leader l → log ≤ l.log
+    pub known : IsExact (same_entry k) → AreDistinct p.logs → AreBounded p.committed p.leaders
+        → (l : Leader T ID) → l ≡ get_or p.leaders leader l → list_any (knows k.rank (same_entry k) (k.rank l.term)
+        (log_at p.logs (config_at p.logs log))) (leaders_in p) ≡ true
+
+  abbrev pub IsStaleWhen : ConfigsCount → ℕ → ℕ → Type 0
+  IsStaleWhen WhenAppended leader len = Unit {0}
+  IsStaleWhen WhenApplied leader len = HasCommitted leader len
+
+  abbrev pub IsStale : ℕ → ℕ → Type 0
+  IsStale leader len = IsStaleWhen k.counting leader len
+
+  -- a leader is as it was, and it is noted whether those who have voted for it elect it
+  pub record IsElectedAgain (old new : Leader T ID) : Type 0 where
+    pub rest : new ≡ record old { elected = new.elected }
+    pub elected : IsExact (same_entry k) → AreLogs (λ d. is_some (k.config_of d)) p.logs
+        → old.log < length p.logs.logs → IsDistinct k.same_id old.voters.items
+        → new.elected ≡ elected_in k k.counting (commits_in p) old.term
+        (take old.start (log_at p.logs old.log)) (is_member k.same_id old.voters.items)
+
+  -- and so for each leader
+  pub record AreElected (new : List (Leader T ID)) : Type 0 where
+    pub same_len : length new ≡ length p.leaders
+    pub each : (i : ℕ) (old l : Leader T ID) → i < length p.leaders → old ≡ get_or p.leaders i old
+        → l ≡ get_or new i l → IsElectedAgain old l
