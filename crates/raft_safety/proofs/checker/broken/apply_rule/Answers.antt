@@ -5,9 +5,8 @@ use Rattle.raft_safety.proofs.checker.broken.apply_rule.Goals as goal
 
 pub returns-then-len : goal.returns-then-len
 returns-then-len g c =
-    λ exact distinct. rw (
-      lt-leb c.args.len (length (log_at c.args.logs.now c.args.leader.now.log)) (omega (arith, c.len.ensures.len)),
-    ) refl
+    λ exact distinct. rw
+    (lt-leb c.args.len (length (log_at c.args.logs.now c.args.leader.now.log)) (omega (arith, c.len.ensures.len))) refl
 
 pub returns-then-not-begins_with : goal.returns-then-not-begins_with
 returns-then-not-begins_with g c =
