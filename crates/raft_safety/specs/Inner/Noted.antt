@@ -2,12 +2,10 @@
 use Rattle.std.specs.Prelude.{
   ◌≡◌,
   ◌⊎◌,
-  ◌<◌,
   ℕ,
   Bool,
   true,
   Option,
-  is_some,
   ◌≤◌,
   nat_eq,
   List,
@@ -15,18 +13,14 @@ use Rattle.std.specs.Prelude.{
   ◌∷◌,
   ◌++◌,
   length,
-  map,
   take,
   get_or,
 }
-use Rattle.std.specs.List.{IsDistinct, list_any}
-use Rattle.std.specs.Set.{is_member}
 use Rattle.raft_safety.specs.Log.{Entry}
-use Rattle.raft_safety.specs.Trace.{AreExact, Tests, same_entry}
-use Rattle.raft_safety.specs.Inner.CheckerState.{common_len, knows}
-use Rattle.raft_safety.specs.Inner.Kept.{AreBounded, Parts, commits_in, leaders_in}
-use Rattle.raft_safety.specs.Inner.Known.{elected_in}
-use Rattle.raft_safety.specs.Inner.Logs.{AllLogs, AreDistinct, AreLogs, IsExact, config_at, log_at}
+use Rattle.raft_safety.specs.Trace.{Tests, same_entry}
+use Rattle.raft_safety.specs.Inner.CheckerState.{common_len}
+use Rattle.raft_safety.specs.Inner.Kept.{Parts}
+use Rattle.raft_safety.specs.Inner.Logs.{AllLogs, AreDistinct, IsExact, log_at}
 use Rattle.raft_safety.specs.declared.checker.counting.ConfigsCount.{ConfigsCount}
 use Rattle.raft_safety.specs.declared.checker.counting.ConfigsCount.TheVariants.{WhenAppended, WhenApplied}
 use Rattle.raft_safety.specs.declared.checker.known.Commit.{Commit}
