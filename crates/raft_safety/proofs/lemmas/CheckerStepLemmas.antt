@@ -347,7 +347,7 @@ module _ {D : Type 0} (holds : D → Bool) (T : Type 0) where
   has_no_config : (i : ℕ) → i < 1
       → HasConfig holds (log_at (no_logs {T = T} {D = D}) (config_at (no_logs {T = T} {D = D}) i))
       (log_at (no_logs {T = T} {D = D}) i)
-  has_no_config zero h = record { content = refl; since = no_config }
+  has_no_config zero h = record { content = refl; since = no_config; prefix = refl }
   has_no_config (suc i) h = absurd (omega (arith, h))
 
   no_logs_are : AreLogs holds (no_logs {T = T} {D = D})

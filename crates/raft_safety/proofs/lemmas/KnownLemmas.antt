@@ -3,14 +3,17 @@ use Rattle.std.specs.Prelude.{
   ◌≡◌,
   ◌⊎◌,
   ◌+◌,
+  ◌-◌,
   ◌<◌,
   ◌≤◌,
   ℕ,
   zero,
   suc,
+  min,
   Bool,
   true,
   false,
+  not,
   ◌&&◌,
   ◌||◌,
   nat_lt,
@@ -29,17 +32,30 @@ use Rattle.std.specs.Prelude.{
   take,
   drop,
   get_or,
+  set,
+  if◌then◌else◌,
 }
-use Rattle.std.specs.List.{list_any}
 use Rattle.std.specs.Cmp.{first_so, second_so}
+use Rattle.std.specs.List.{list_any}
 use Rattle.std.proofs.Common.{refl, sym, ap, ◌∙◌, subst, inl, inr, arith}
-use Rattle.std.proofs.lemmas.Bool.{and_from}
-use Rattle.std.proofs.lemmas.List.{drop_all, drop_more, length-map}
+use Rattle.std.proofs.Math.ListN.{length-set}
+use Rattle.std.proofs.lemmas.Bool.{and_from, eq-eqb, eqb-true, le-leb, lt-leb}
+use Rattle.std.proofs.lemmas.List.{
+  drop_all,
+  drop_more,
+  length-map,
+  length-take,
+  length-take-le,
+  take-take,
+  take_all,
+  take_more,
+  take_more_set,
+}
 use Rattle.std.proofs.lemmas.List.Folds.{list_any-append}
 
 -- ---- lists that are searched from the end
 
--- if no later element passes and this one does, some element passes
+-- if this element passes, some element passes
 pub any_before : {X : Type 0} (p : X → Bool) (xs : List X) (i : ℕ) (x : X) → i < length xs
     → x ≡ get_or xs i x → p x ≡ true → true ≡ list_any p xs
 any_before p [] i x h is passes = absurd (omega (arith, h))
@@ -59,3 +75,19 @@ none_from p xs i x h is fails later =
     ∙ ap (λ y. p y || list_any p (drop (i + 1) xs)) (sym is)
     ∙ ap (λ b. b || list_any p (drop (i + 1) xs)) fails
     ∙ later
+
+-- ---- the last element of a list
+
+-- a list ends in its last element, and another may take the place of this one
+pub replaced : {X : Type 0} (xs : List X) (n : ℕ) (x y : X) → 0 < n → n ≡ length xs
+    → x ≡ get_or xs (n - 1) x
+    → (xs ≡ take (n - 1) xs ++ x ∷ []) × (set xs (n - 1) y ≡ take (n - 1) xs ++ y ∷ [])
+replaced {X} xs n x y some len last = (
+    sym (take_all (n - 1 + 1) xs (omega (arith, len))) ∙ take_more xs (n - 1) x in_list
+        ∙ ap (λ (z : X). take (n - 1) xs ++ z ∷ []) (sym last),
+    sym (take_all (n - 1 + 1) (set xs (n - 1) y) (omega (arith, len, length-set xs (n - 1) y)))
+        ∙ take_more_set xs (n - 1) y in_list,
+  )
+  where
+    in_list : n - 1 < length xs
+    in_list = omega (arith, some, len)

@@ -1,6 +1,6 @@
-use Rattle.std.proofs.Common.{◌≡◌, ◌<◌, ◌≤◌, ◌∙◌, ◌-◌, ap, arith, length, map, sym}
+use Rattle.std.proofs.Common.{◌≡◌, ◌+◌, ◌<◌, ◌≤◌, ◌∙◌, ◌-◌, ap, arith, drop, get_or, length, map, sym}
 use Rattle.std.specs.List.{list_any}
-use Rattle.std.proofs.lemmas.List.{drop_all, length-map}
+use Rattle.std.proofs.lemmas.List.{drop_all, get_or_map, length-map}
 use Rattle.raft_safety.specs.Inner.CheckerState.{same_entry_by}
 use Rattle.raft_safety.specs.Inner.Known.{commit_in, covers}
 use Rattle.raft_safety.specs.Inner.Logs.{log_at}
@@ -16,12 +16,26 @@ loop-i-init g c =
     let past : length xs ≤ length c.args.commits.now = omega (arith, len) in
     λ exact distinct. ap (list_any test) (drop_all (length c.args.commits.now) xs past)
 
--- the commit before the counter is read by its place
 pub returns-then-covers : goal.returns-then-covers
-returns-then-covers g c = ?
+returns-then-covers g c =
+    let test = covers (same_entry_by g.T.PartialEq.eq g.D.PartialEq.eq) c.args.rank c.args.counted_at
+    (log_at c.args.logs.now c.args.log) in
+    let show = commit_in c.args.logs.now in
+    let read = get_or c.args.commits.now (c.loop-i.i - 1) record { rank = 0; counted_at = 0; log = 0 } in
+    let len = length-map c.args.commits.now show in
+    let within : c.loop-i.i - 1 < length c.args.commits.now = omega arith in
+    let within_map : c.loop-i.i - 1 < length (map show c.args.commits.now) = omega (arith, len) in
+    λ exact distinct. any_before test (map show c.args.commits.now) (c.loop-i.i - 1) (show read) within_map
+    (read_mapped show c.args.commits.now (c.loop-i.i - 1) read within)
+    (sym (c.covers.ensures exact distinct) ∙ c.if-covers.true)
 
 pub loop-i-preserved : goal.loop-i-preserved
 loop-i-preserved g c = ?
 
 pub returns : goal.returns
-returns g c = λ exact distinct. sym (c.loop-i.invariant exact distinct)
+returns g c =
+    let test = covers (same_entry_by g.T.PartialEq.eq g.D.PartialEq.eq) c.args.rank c.args.counted_at
+    (log_at c.args.logs.now c.args.log) in
+    let none : c.loop-i.i ≡ 0 = omega arith in
+    λ exact distinct. sym (c.loop-i.invariant exact distinct)
+    ∙ ap (λ i. list_any test (drop i (map (commit_in c.args.logs.now) c.args.commits.now))) none
