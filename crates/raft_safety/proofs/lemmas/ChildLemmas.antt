@@ -24,13 +24,15 @@ use Rattle.std.specs.Prelude.{
   ◌∷◌,
   ◌++◌,
   length,
+  min,
+  take,
   drop,
 }
 use Rattle.std.specs.Option.{unwrap_or, option_or}
 use Rattle.std.proofs.Common.{refl, sym, ap, ◌∙◌, subst, inl, inr, arith}
 use Rattle.std.proofs.Math.Dec.{leb-suc-suc}
 use Rattle.std.proofs.lemmas.Bool.{cases_eq, cases_lt, le-leb, lt-leb}
-use Rattle.std.proofs.lemmas.List.{length_push, same_from_push}
+use Rattle.std.proofs.lemmas.List.{length-take, length_push, same_from_push, take-append-le, take_all}
 use Rattle.raft_safety.specs.Log.{Entry}
 use Rattle.raft_safety.specs.Configs.{effective_config}
 use Rattle.raft_safety.specs.Inner.CheckerState.{config_in, no_config_in}
@@ -102,6 +104,7 @@ module _ {T D : Type 0} (holds : D → Bool) where
         ∙ ap (λ b. unwrap_or (if b then Some (Some e.content) else None)
         (effective_config (config_in holds) None log)) h);
     since = λ n. since_last n log e h;
+    prefix = sym (take_all (length (log ++ e ∷ [])) (log ++ e ∷ []) (omega arith));
   }
 
   config_stays : (config log : List (Entry T D)) (e : Entry T D) → holds e.content ≡ false
@@ -112,7 +115,14 @@ module _ {T D : Type 0} (holds : D → Bool) where
         ∙ ap (λ b. unwrap_or (if b then Some (Some e.content) else None)
         (effective_config (config_in holds) None log)) h);
     since = λ n. since_same n log e h ∙ has.since n;
+    prefix = has.prefix ∙ sym (take-append-le (length config) log (e ∷ []) short);
   }
+    where
+      short : length config ≤ length log
+      short =
+          let len : length config ≡ min (length config) (length log) =
+          ap length has.prefix ∙ length-take (length config) log in
+          omega (arith, len)
 
   pub is_child : (t : AllLogs T D) (log child : ℕ) (e : Entry T D) → AreLogs holds t
       → child < length t.logs → log_at t child ≡ log_at t log ++ e ∷ [] → IsChild holds t log e t child

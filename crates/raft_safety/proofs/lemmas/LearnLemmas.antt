@@ -687,6 +687,7 @@ module _ {T ID D : Type 0} (k : Tests T ID D (Option D)) (config_of : D → Opti
             (config_in (λ x. is_some (k.config_of x))) in_agree None (log_at t i) (without i h));
         since = λ n. no_config (drop n (log_at t i)) (lack_drop k.same_content d n (log_at t i) (without i h))
             ∙ (are.config i h).since n;
+        prefix = (are.config i h).prefix;
       };
     }
       where

@@ -17,6 +17,7 @@ use Rattle.std.specs.Prelude.{
   ◌∷◌,
   ◌++◌,
   length,
+  take,
   drop,
   get_or,
 }
@@ -97,6 +98,7 @@ module _ {T D : Type 0} (holds : D → Bool) where
   pub record HasConfig (config log : List (Entry T D)) : Type 0 where
     pub content : last_content config ≡ effective_config (config_in holds) None log
     pub since : (n : ℕ) → no_config_in holds (drop n log) ≡ nat_le (length config) n
+    pub prefix : config ≡ take (length config) log
 
   -- the first log is empty, no two are equal, and each knows its last config
   pub record AreLogs (t : AllLogs T D) : Type 0 where
