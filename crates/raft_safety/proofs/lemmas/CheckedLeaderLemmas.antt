@@ -156,21 +156,16 @@ and_more : (a b c : Bool) → (a ≡ true → b ≡ true) → (a && c) ≡ true 
 and_more true b c f h = and_from b c (f refl) h
 and_more false b c f h = absurd (cc)
 
+some_or : (a b c d : Bool) → (a ≡ true → b ≡ true) → (c ≡ true → d ≡ true) → (a || c) ≡ true → (b || d) ≡ true
+some_or true b c d f g h = rw (f refl) refl
+some_or false true c d f g h = refl
+some_or false false c d f g h = g h
+
 some_more : (n : ℕ) (f g : ℕ → Bool) → ((a : ℕ) → f a ≡ true → g a ≡ true) → some_upto n f ≡ true
     → some_upto n g ≡ true
 some_more zero f g more h = more zero h
-some_more (suc n) f g more h = go (f (suc n)) refl h
-  where
-    right : (b c : Bool) → c ≡ true → (b || c) ≡ true
-    right true c e = refl
-    right false c e = e
-
-    left : (b c : Bool) → b ≡ true → (b || c) ≡ true
-    left b c e = rw e refl
-
-    go : (b : Bool) → f (suc n) ≡ b → (b || some_upto n f) ≡ true → (g (suc n) || some_upto n g) ≡ true
-    go true e i = left (g (suc n)) (some_upto n g) (more (suc n) e)
-    go false e i = right (g (suc n)) (some_upto n g) (some_more n f g more i)
+some_more (suc n) f g more h =
+    some_or (f (suc n)) (g (suc n)) (some_upto n f) (some_upto n g) (more (suc n)) (λ e. some_more n f g more e) h
 
 module _ {T ID D : Type 0} (k : Tests T ID D (Option D)) (exact : AreExact k) where
   -- nothing changes for the candidate or leader of a term

@@ -811,27 +811,27 @@ module _ {T ID D : Type 0} (k : Tests T ID D (Option D)) (exact : AreExact k) wh
   pub noted_leader : (es : List (TraceEvent T ID D)) (t : T) (c : ID) (p : Parts T ID D) (j : ℕ) (l : Leader T ID)
       → position (is_leader t c) p.leaders ≡ Some j → l ≡ get_or p.leaders j l → Keeps k es p → l.elected ≡ true
       → IsElectedAt k es t c p.leaders j
-  noted_leader es t c p j l at is keeps yes = record { place = at; elected = go k.counting at_l.elected }
+  noted_leader es t c p j l at is keeps noted = record { place = at; elected = go k.counting at_l.elected }
     where
       at_l : SeesLeader k es t c (leader_in p.logs l)
       at_l = sees_leader_at es p t c j l at is keeps
 
       go : (w : ConfigsCount) → IsElectionOf w (is_elected_when k es t c) l.elected → is_elected_when k es t c ≡ true
-      go WhenAppended h = h ∙ yes
-      go WhenApplied h = h yes
+      go WhenAppended h = h ∙ noted
+      go WhenApplied h = h noted
 
   -- if configs count from their append on, no other leader is elected
   pub other_leader : (es : List (TraceEvent T ID D)) (t : T) (c : ID) (p : Parts T ID D) (j : ℕ) (l : Leader T ID)
       → position (is_leader t c) p.leaders ≡ Some j → l ≡ get_or p.leaders j l → Keeps k es p → l.elected ≡ false
       → is_applied k.counting ≡ false → is_elected_when k es t c ≡ false
-  other_leader es t c p j l at is keeps no = go k.counting at_l.elected
+  other_leader es t c p j l at is keeps noted = go k.counting at_l.elected
     where
       at_l : SeesLeader k es t c (leader_in p.logs l)
       at_l = sees_leader_at es p t c j l at is keeps
 
       go : (w : ConfigsCount) → IsElectionOf w (is_elected_when k es t c) l.elected → is_applied w ≡ false
           → is_elected_when k es t c ≡ false
-      go WhenAppended h e = h ∙ no
+      go WhenAppended h e = h ∙ noted
       go WhenApplied h e = absurd (cc)
 
   -- what is known by the events is known by the commits that are kept
