@@ -35,7 +35,7 @@ returns-then-not-is_quorum-clause-answer g c =
     (c.config_content-config.ensures (g.C.Configs.holds_config c.args.self.now.configs)
     (logs_by (g.C.Configs.holds_config c.args.self.now.configs) c.args.self.now.logs keeps.are_logs)
     (let own = keeps.have_logs.of_leaders c.in-Some.j c.index-3.result.now
-    (found_within _ _ _ (c.in-Some.ensures.place exact es keeps))
+    (found_within _ _ _ (c.in-Some.ensures.place exact es keeps).place)
     c.index-3.ensures in
     omega (arith, own, c.first.ensures.earlier))
     ∙ ap (λ x. effective_config (config_in (g.C.Configs.holds_config c.args.self.now.configs)) None x) c.first.ensures.first)
@@ -51,7 +51,7 @@ returns-clause-answer g c =
     (c.config_content-config.ensures (g.C.Configs.holds_config c.args.self.now.configs)
     (logs_by (g.C.Configs.holds_config c.args.self.now.configs) c.args.self.now.logs keeps.are_logs)
     (let own = keeps.have_logs.of_leaders c.in-Some.j c.index-3.result.now
-    (found_within _ _ _ (c.in-Some.ensures.place exact es keeps))
+    (found_within _ _ _ (c.in-Some.ensures.place exact es keeps).place)
     c.index-3.ensures in
     omega (arith, own, c.first.ensures.earlier))
     ∙ ap (λ x. effective_config (config_in (g.C.Configs.holds_config c.args.self.now.configs)) None x) c.first.ensures.first)

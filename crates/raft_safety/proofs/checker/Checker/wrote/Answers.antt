@@ -25,7 +25,7 @@ returns-in-Some-write_rule-clause-answer g c =
     (c.in-Some.ensures.place exact es keeps) c.index.ensures keeps
     (sym (c.in-Some-write_rule.ensures (logs_by (g.C.Configs.holds_config c.args.self.now.configs) c.args.self.now.logs keeps.are_logs)
     (keeps.have_logs.of_leaders c.in-Some.j c.index.result.now
-    (found_within _ _ _ (c.in-Some.ensures.place exact es keeps)) c.index.ensures)))
+    (found_within _ _ _ (c.in-Some.ensures.place exact es keeps).place) c.index.ensures)))
 
 pub returns-in_err-log-clause-answer : goal.returns-in_err-log-clause-answer
 returns-in_err-log-clause-answer g c =
@@ -41,10 +41,10 @@ returns-clause-answer g c =
     c.index-2.ensures c.index_mut.ensures.value keeps
     (sym (c.in-None-write_rule.ensures (logs_by (g.C.Configs.holds_config c.args.self.now.configs) c.args.self.now.logs keeps.are_logs)
     (keeps.have_logs.of_leaders c.in-Some.j c.index.result.now
-    (found_within _ _ _ (c.in-Some.ensures.place exact es keeps)) c.index.ensures)))
+    (found_within _ _ _ (c.in-Some.ensures.place exact es keeps).place) c.index.ensures)))
     c.in_ok-log.log (c.in_ok-log.ensures.child _ (exact_entries _ exact) keeps.are_logs
     (keeps.have_logs.of_leaders c.in-Some.j c.index-2.result.now
-    (found_within _ _ _ (c.in-Some.ensures.place exact es keeps)) c.index-2.ensures)
+    (found_within _ _ _ (c.in-Some.ensures.place exact es keeps).place) c.index-2.ensures)
     (c.holds_config-is_config.ensures
     ∙ ap (λ (e : Entry g.row.T.Denot g.row.D.Denot). g.C.Configs.holds_config c.args.self.now.configs e.content) c.entry.view_is
     ∙ sym (some_config (g.C.Configs.holds_config c.args.self.now.configs) c.args.entry.content)))
