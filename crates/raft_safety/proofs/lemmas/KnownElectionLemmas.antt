@@ -1,0 +1,1 @@
+-- An election by a config that is known.
