@@ -16,6 +16,7 @@ use Rattle.std.specs.Prelude.{
   nat_le,
   nat_lt,
   nat_eq,
+  min,
   if◌then◌else◌,
   Option,
   Some,
@@ -33,15 +34,22 @@ use Rattle.std.specs.List.{list_any}
 use Rattle.std.specs.Option.{unwrap_or}
 use Rattle.std.proofs.Common.{refl, sym, ap, ◌∙◌, inl, inr, arith}
 use Rattle.std.proofs.lemmas.Bool.{and_from, cases_lt, eq-eqb, eqb-true, le-leb, leb-true, lt-leb}
-use Rattle.std.proofs.lemmas.List.{take-take}
+use Rattle.std.proofs.lemmas.List.{length-take, take-take}
 use Rattle.raft_safety.specs.Log.{Entry}
 use Rattle.raft_safety.specs.Configs.{effective_config}
 use Rattle.raft_safety.specs.AppliedTrace.{hold_at_most_one, some_upto}
 use Rattle.raft_safety.specs.Trace.{Tests, hold_no_config, is_quorum_of_log, same_entry}
 use Rattle.raft_safety.specs.Inner.CheckerState.{common_len, config_in, no_config_in}
 use Rattle.raft_safety.specs.Inner.Known.{CommitState, any_covers, at_most_one_in, covers, elected_in, is_config_known}
+use Rattle.raft_safety.specs.Inner.Logs.{AllLogs, AreLogs, HasConfig, config_at, log_at}
 use Rattle.raft_safety.specs.declared.checker.counting.ConfigsCount.TheVariants.{WhenApplied}
-use Rattle.raft_safety.proofs.lemmas.ConfigBeforeLemmas.{none_among_first, none_between, one_later}
+use Rattle.raft_safety.proofs.lemmas.ConfigBeforeLemmas.{
+  IsConfigBefore,
+  none_among_first,
+  none_between,
+  none_is_at_most_one,
+  one_later,
+}
 use Rattle.raft_safety.proofs.lemmas.TestLemmas.{or_cases}
 
 or_left : (a b : Bool) → a ≡ true → (a || b) ≡ true
@@ -189,31 +197,31 @@ module _ {T D N : Type 0} (same : Entry T D → Entry T D → Bool) (holds : D �
       ∙ ap (λ m. has_quorum m voters) (sym (effective_first holds None n (take a log) none))
       ∙ second_so known quorum e)
 
-  -- if the last config is the last of m first entries, and the one before it is the last of n
-  pub elects_at_two : (m n : ℕ) → m ≤ length log → n ≤ length log
-      → ((i : ℕ) → no_config_in holds (drop i log) ≡ nat_le m i)
-      → ((i : ℕ) → at_most_one_in holds (drop i log) ≡ nat_le n i)
-      → n ≤ m → (elects_by m || elects_by n) ≡ some_upto (length log) elects_at
-  elects_at_two m n m_in n_in since follow less =
-      both_ways (elects_by m || elects_by n) (some_upto (length log) elects_at) all two
+  -- a candidate is elected by the config of so many first entries if at most one follows
+  upto_by : (a : ℕ) → a ≤ length log → at_most_one_in holds (drop a log) ≡ true → elects_by a ≡ true
+      → some_upto (length log) elects_at ≡ true
+  upto_by a within follow e =
+      let known : Bool = is_config_known same holds r 0 (take a log) commits in
+      let quorum : Bool = has_quorum (effective_config (config_in holds) None (take a log)) voters in
+      upto_from (length log) a elects_at within
+      (and_from known (at_most_one_in holds (drop a log) && quorum) (first_so known quorum e)
+      (and_from (at_most_one_in holds (drop a log)) quorum follow (second_so known quorum e)))
+
+  -- so by its last config
+  pub elects_at_last : (m : ℕ) → m ≤ length log → no_config_in holds (drop m log) ≡ true → elects_by m ≡ true
+      → some_upto (length log) elects_at ≡ true
+  elects_at_last m within none e = upto_by m within (none_is_at_most_one holds (drop m log) none) e
+
+  -- if the last config is that of m first entries, and the one before it that of n, no other elects
+  pub elects_at_two : (m n : ℕ) → ((i : ℕ) → no_config_in holds (drop i log) ≡ nat_le m i)
+      → ((i : ℕ) → at_most_one_in holds (drop i log) ≡ nat_le n i) → n ≤ length log → elects_by m ≡ false
+      → elects_by n ≡ some_upto (length log) elects_at
+  elects_at_two m n since follow within not_last =
+      both_ways (elects_by n) (some_upto (length log) elects_at)
+      (λ e. upto_by n within (follow n ∙ le-leb n n (omega arith)) e) only
     where
-      at : (a : ℕ) → n ≤ a → a ≤ length log → elects_by a ≡ true → some_upto (length log) elects_at ≡ true
-      at a h within e =
-          let known : Bool = is_config_known same holds r 0 (take a log) commits in
-          let quorum : Bool = has_quorum (effective_config (config_in holds) None (take a log)) voters in
-          upto_from (length log) a elects_at within
-          (and_from known (at_most_one_in holds (drop a log) && quorum) (first_so known quorum e)
-          (and_from (at_most_one_in holds (drop a log)) quorum (follow a ∙ le-leb n a h) (second_so known quorum e)))
-
-      all : (elects_by m || elects_by n) ≡ true → some_upto (length log) elects_at ≡ true
-      all e = go (or_cases (elects_by m) (elects_by n) e)
-        where
-          go : ((elects_by m ≡ true) ⊎ (elects_by n ≡ true)) → some_upto (length log) elects_at ≡ true
-          go (inl x) = at m less m_in x
-          go (inr x) = at n (omega arith) n_in x
-
-      two : some_upto (length log) elects_at ≡ true → (elects_by m || elects_by n) ≡ true
-      two e = go (cases_lt p.at m)
+      only : some_upto (length log) elects_at ≡ true → elects_by n ≡ true
+      only e = go (cases_lt p.at m)
         where
           p : PassesUpto (length log) elects_at
           p = upto_at (length log) elects_at e
@@ -236,14 +244,51 @@ module _ {T D N : Type 0} (same : Entry T D → Entry T D → Bool) (holds : D �
           enough : n ≤ p.at
           enough = leb-true n p.at (sym (follow p.at) ∙ first_so one quorum both)
 
-          go : (p.at < m) ⊎ (m ≤ p.at) → (elects_by m || elects_by n) ≡ true
+          go : (p.at < m) ⊎ (m ≤ p.at) → elects_by n ≡ true
           go (inl h) =
-              or_right (elects_by m) (elects_by n)
-              (elects_by_fewer n p.at enough
-              (one_later holds n p.at log enough (follow n ∙ le-leb n n (omega arith)) (since p.at ∙ lt-leb m p.at h)) by)
+              elects_by_fewer n p.at enough
+              (one_later holds n p.at log enough (follow n ∙ le-leb n n (omega arith)) (since p.at ∙ lt-leb m p.at h)) by
           go (inr h) =
-              or_left (elects_by m) (elects_by n)
-              (elects_by_fewer m p.at h (none_between holds m p.at log (since m ∙ le-leb m m (omega arith))) by)
+              absurd (cc (
+                not_last,
+                elects_by_fewer m p.at h (none_between holds m p.at log (since m ∙ le-leb m m (omega arith))) by,
+              ))
+
+-- ---- the test by the logs up to these configs
+
+module _ {T D N : Type 0} (same : Entry T D → Entry T D → Bool) (holds : D → Bool)
+    (has_quorum : Option D → (N → Bool) → Bool) (r : ℕ) (commits : List (CommitState T D)) (voters : N → Bool)
+    (t : AllLogs T D) (log : ℕ) (are : AreLogs holds t) (within : log < length t.logs) where
+  -- the config of a log is known, and the voters are a quorum of it
+  abbrev pub elects : List (Entry T D) → Bool
+  elects p =
+      is_config_known same holds r 0 p commits && has_quorum (effective_config (config_in holds) None p) voters
+
+  abbrev pub elected : Bool
+  elected =
+      some_upto (length (log_at t log)) (elects_at same holds has_quorum r commits (log_at t log) voters)
+
+  short : (p : List (Entry T D)) → p ≡ take (length p) (log_at t log) → length p ≤ length (log_at t log)
+  short p e =
+      let len : length p ≡ min (length p) (length (log_at t log)) = ap length e ∙ length-take (length p) (log_at t log) in
+      omega (arith, len)
+
+  pub last_elects : (config : ℕ) → config ≡ config_at t log → elects (log_at t config) ≡ true → true ≡ elected
+  last_elects config is e =
+      let has : HasConfig holds (log_at t (config_at t log)) (log_at t log) = are.config log within in
+      let m : ℕ = length (log_at t (config_at t log)) in
+      sym (elects_at_last same holds has_quorum r commits (log_at t log) voters m (short (log_at t (config_at t log)) has.prefix)
+      (has.since m ∙ le-leb m m (omega arith))
+      (ap elects (sym has.prefix) ∙ ap (λ i. elects (log_at t i)) (sym is) ∙ e))
+
+  pub before_elects : (config before : ℕ) → config ≡ config_at t log → elects (log_at t config) ≡ false
+      → IsConfigBefore holds t log before → elects (log_at t before) ≡ elected
+  before_elects config before is e at =
+      let has : HasConfig holds (log_at t (config_at t log)) (log_at t log) = are.config log within in
+      ap elects at.is
+      ∙ elects_at_two same holds has_quorum r commits (log_at t log) voters (length (log_at t (config_at t log)))
+      (length (log_at t before)) has.since at.at_most_one (short (log_at t before) at.is)
+      (ap elects (sym has.prefix) ∙ ap (λ i. elects (log_at t i)) (sym is) ∙ e)
 
 -- ---- the test by what clauses name
 
