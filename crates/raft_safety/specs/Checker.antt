@@ -1,10 +1,12 @@
 -- What the checker of recorded traces answers, and what it keeps of the events.
 use Rattle.std.specs.Prelude.{◌≡◌, ◌⊎◌, ◌<◌, ℕ, Bool, true, false, Option, Some, None, Result, List, [], ◌∷◌, length, take, get_or, is_some}
-use Rattle.std.specs.List.{list_any}
+use Rattle.std.specs.List.{list_any, position}
+use Rattle.std.specs.Option.{MatchOption}
 use Rattle.std.specs.Result.{MatchResult}
 use Rattle.raft_safety.specs.Log.{Entry, LackContent}
 use Rattle.raft_safety.specs.Trace.{
   same_entry,
+  same_leader,
   TraceEvent,
   Campaigned,
   Granted,
@@ -18,7 +20,7 @@ use Rattle.raft_safety.specs.Trace.{
   AreExact,
   is_known_committed,
 }
-use Rattle.raft_safety.specs.Counted.{are_all_allowed, first_broken}
+use Rattle.raft_safety.specs.Counted.{are_all_allowed, first_broken, is_elected_when}
 use Rattle.raft_safety.specs.Inner.CheckerState.{LeaderState, ServerState, config_in, knows}
 use Rattle.raft_safety.specs.Inner.Kept.{AreBounded, HaveLogs, Parts, commits_in, leaders_in, servers_in}
 use Rattle.raft_safety.specs.Inner.Known.{SeesKnownBy}
@@ -36,6 +38,7 @@ use Rattle.raft_safety.specs.declared.checker.learn.LearnError.TheVariants.{
   OutOfMemory as LearnOutOfMemory,
 }
 use Rattle.raft_safety.specs.declared.checker.Checker.{Checker}
+use Rattle.raft_safety.specs.declared.checker.leader.Leader.{Leader}
 use Rattle.raft_safety.specs.declared.event.Event.{Event as RecordedEvent}
 use Rattle.raft_safety.specs.declared.event.Event.TheVariants.{
   Campaigned as RecordedCampaign,
@@ -138,6 +141,18 @@ kept_by c = record {
   committed = c.committed;
   commits = c.commits.items;
 }
+
+module _ {T ID D : Type 0} (k : Tests T ID D (Option D)) where
+  -- the leader of a term is at this place, and it is elected
+  pub record IsElectedAt (es : List (TraceEvent T ID D)) (t : T) (c : ID) (leaders : List (Leader T ID)) (j : ℕ) : Type 0 where
+    pub place : position (λ (l : Leader T ID). same_leader k l.term l.id t c) leaders ≡ Some j
+    pub elected : is_elected_when k es t c ≡ true
+
+  -- the leader of a term is found exactly if it is elected
+  abbrev pub FindsLeader : T → ID → Parts T ID D → Option ℕ → Type 0
+  FindsLeader t c p result =
+      AreExact k → (es : List (TraceEvent T ID D)) → Keeps k es p
+      → MatchOption result (is_elected_when k es t c ≡ false) (IsElectedAt es t c p.leaders)
 
 -- an event is refused for the rule that it breaks, or for memory
 abbrev pub IsRefusal : Option Rule → Violation → Type 0

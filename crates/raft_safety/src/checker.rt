@@ -1,12 +1,12 @@
 //! The checker of recorded events: whether each event was allowed by what came before.
-ghost use Rattle.std.specs.Prelude.{◌≡◌, ◌<◌, IfOk, IsFalse, OnErr, OnOk, drop, length, map};
+ghost use Rattle.std.specs.Prelude.{◌≡◌, ◌<◌, IfOk, IfSome, OnErr, OnOk, drop, length, map};
 ghost use Rattle.std.specs.List.{list_any};
 ghost use Rattle.raft_safety.specs.Inner.CheckerState.{knows, same_entry_by};
 ghost use Rattle.raft_safety.specs.Inner.Kept.{AreBounded, IsAt, leader_in};
-ghost use Rattle.raft_safety.specs.Inner.Noted.{AreElected, IsNotedBy, IsStale};
+ghost use Rattle.raft_safety.specs.Inner.Noted.{IsNotedBy};
 ghost use Rattle.std.specs.VecDeque.{deque_len};
 ghost use Rattle.raft_safety.specs.Inner.Logs.{AreDistinct, IsExact, log_at};
-ghost use Rattle.raft_safety.specs.Checker.{Answers, Begins, Records, configs_of, counting_of, event_of, kept_by, tests_of, tests_when};
+ghost use Rattle.raft_safety.specs.Checker.{Answers, Begins, FindsLeader, Records, configs_of, counting_of, event_of, kept_by, tests_of, tests_when};
 ghost use Rattle.raft_safety.specs.declared.checker.counting.ConfigsCount.TheVariants.{WhenAppended};
 ghost use Rattle.raft_safety.specs.Trace.{Campaigned, Granted, Appended, Acked, Restarted, Wrote, Committed, Applied};
 
@@ -165,6 +165,36 @@ impl<T: Term, N: Copy + Eq, D: Copy + Eq, C: Configs<N, D> + Drop> Checker<T, N,
         }
     }
 
+    /// Returns the position of the leader of a term, if this server is elected in the term.
+    fn elected_leader(&self, term: T, id: N) -> Option<usize>
+        ensures place { FindsLeader (tests_when self.now.counting T.Term N.PartialEq D.PartialEq C.Configs
+            self.now.configs) term id (kept_by self.now) result }
+        ensures within { IfSome result (λ j. j < deque_len self.now.leaders) }
+    {
+        let j = match leader_at(&self.leaders, &self.places, term, id) {
+            Some(j) => j,
+            None => return None,
+        };
+        if self.leaders[j].elected {
+            return Some(j);
+        }
+        // If configs count once they are applied, a candidate may become elected by a commit, because
+        // its config is known then.
+        if !self.counting.is_applied() {
+            return None;
+        }
+        if !is_elected(
+            self.counting,
+            &self.configs,
+            &self.logs,
+            &self.commits,
+            &self.leaders[j],
+        ) {
+            return None;
+        }
+        Some(j)
+    }
+
     /// A server starts a campaign.
     fn campaigned(&mut self, server: N, term: T) -> Result<(), Violation>
         ensures configs { self.new.configs ≡ self.old.configs }
@@ -266,7 +296,7 @@ impl<T: Term, N: Copy + Eq, D: Copy + Eq, C: Configs<N, D> + Drop> Checker<T, N,
             (Appended server term leader keep entries.now) (kept_by self.old)
             (kept_by self.new) result }
     {
-        let j = match leader_at(&self.leaders, &self.places, term, leader) {
+        let j = match self.elected_leader(term, leader) {
             Some(j) => j,
             None => return Err(Violation::Rule(Rule::NotElected)),
         };
@@ -299,7 +329,7 @@ impl<T: Term, N: Copy + Eq, D: Copy + Eq, C: Configs<N, D> + Drop> Checker<T, N,
             (tests_when self.old.counting T.Term N.PartialEq D.PartialEq C.Configs self.old.configs)
             (Acked server term leader len) (kept_by self.old) (kept_by self.new) result }
     {
-        let j = match leader_at(&self.leaders, &self.places, term, leader) {
+        let j = match self.elected_leader(term, leader) {
             Some(j) => j,
             None => return Err(Violation::Rule(Rule::NotElected)),
         };
@@ -340,7 +370,7 @@ impl<T: Term, N: Copy + Eq, D: Copy + Eq, C: Configs<N, D> + Drop> Checker<T, N,
             (tests_when self.old.counting T.Term N.PartialEq D.PartialEq C.Configs self.old.configs)
             (Wrote leader term entry) (kept_by self.old) (kept_by self.new) result }
     {
-        let j = match leader_at(&self.leaders, &self.places, term, leader) {
+        let j = match self.elected_leader(term, leader) {
             Some(j) => j,
             None => return Err(Violation::Rule(Rule::NotElected)),
         };
@@ -375,7 +405,7 @@ impl<T: Term, N: Copy + Eq, D: Copy + Eq, C: Configs<N, D> + Drop> Checker<T, N,
             (tests_when self.old.counting T.Term N.PartialEq D.PartialEq C.Configs self.old.configs)
             (Committed leader term len counted_at) (kept_by self.old) (kept_by self.new) result }
     {
-        let j = match leader_at(&self.leaders, &self.places, term, leader) {
+        let j = match self.elected_leader(term, leader) {
             Some(j) => j,
             None => return Err(Violation::Rule(Rule::NotElected)),
         };
@@ -397,71 +427,35 @@ impl<T: Term, N: Copy + Eq, D: Copy + Eq, C: Configs<N, D> + Drop> Checker<T, N,
         if !self.configs.is_quorum(config, &servers) {
             return Err(Violation::Rule(Rule::NoQuorum));
         }
-        let is_new = self.note(j, len, counted_at)?;
+        self.note(j, len, counted_at)?;
         self.leaders[j].commit(len);
         self.committed = self.committed.max(len);
-        if is_new {
-            self.elect();
-        }
         Ok(())
     }
 
     /// Notes that a leader commits so many first entries, if configs count once they are applied.
-    /// Returns whether the last config among these entries can become known by it. Only then can a
-    /// candidate become elected by it.
     ///
     /// # Errors
     ///
     /// Out of memory. Nothing is noted then.
-    fn note(&mut self, leader: usize, len: usize, counted_at: usize) -> Result<bool, AllocError>
+    fn note(&mut self, leader: usize, len: usize, counted_at: usize) -> Result<(), AllocError>
         requires { leader < deque_len self.old.leaders }
         ensures noted { OnOk result (IsNotedBy (tests_when self.old.counting T.Term N.PartialEq
             D.PartialEq C.Configs self.old.configs) (kept_by self.old) leader len counted_at
             self.new.commits.items) }
-        ensures stale { IfOk result (λ is_new. IsFalse is_new → IsStale
-            (tests_when self.old.counting T.Term N.PartialEq D.PartialEq C.Configs self.old.configs)
-            (kept_by self.old) leader len) }
         ensures err { OnErr result (self.new.commits.items ≡ self.old.commits.items) }
         ensures rest { self.new ≡ record self.old { commits = self.new.commits } }
     {
         if !self.counting.is_applied() {
-            return Ok(false);
+            return Ok(());
         }
-        let log = self.logs.first(self.leaders[leader].log, len);
-        let rank = self.leaders[leader].term.rank();
-        let is_old = any_knows(
-            &self.logs,
-            &self.leaders,
-            self.committed,
-            leader,
-            rank,
-            self.logs.config(log),
-        );
+        let leader = &self.leaders[leader];
         let commit = Commit {
-            rank,
+            rank: leader.term.rank(),
             counted_at,
-            log,
+            log: self.logs.first(leader.log, len),
         };
-        note_commit(&self.logs, &mut self.commits, commit)?;
-        Ok(!is_old)
-    }
-
-    /// Finds which candidates are elected, after a config has become known.
-    fn elect(&mut self)
-        ensures leaders { AreElected (tests_when self.old.counting T.Term N.PartialEq D.PartialEq
-            C.Configs self.old.configs) (kept_by self.old) self.new.leaders.items }
-        ensures rest { self.new ≡ record self.old { leaders = self.new.leaders } }
-    {
-        for j in 0..self.leaders.len() {
-            let elected = is_elected(
-                self.counting,
-                &self.configs,
-                &self.logs,
-                &self.commits,
-                &self.leaders[j],
-            );
-            self.leaders[j].elect(elected);
-        }
+        note_commit(&self.logs, &mut self.commits, commit)
     }
 
     /// A server applies entries.
@@ -472,7 +466,7 @@ impl<T: Term, N: Copy + Eq, D: Copy + Eq, C: Configs<N, D> + Drop> Checker<T, N,
             (tests_when self.old.counting T.Term N.PartialEq D.PartialEq C.Configs self.old.configs)
             (Applied server term leader len) (kept_by self.old) (kept_by self.new) result }
     {
-        let j = match leader_at(&self.leaders, &self.places, term, leader) {
+        let j = match self.elected_leader(term, leader) {
             Some(j) => j,
             None => return Err(Violation::Rule(Rule::NotElected)),
         };

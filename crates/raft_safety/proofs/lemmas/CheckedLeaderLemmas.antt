@@ -30,7 +30,8 @@ use Rattle.std.specs.Prelude.{
 use Rattle.std.specs.List.{find, list_any, position, position_or_len, slice_get}
 use Rattle.std.specs.Option.{MatchOption}
 use Rattle.std.proofs.Common.{refl, sym, ap, ◌∙◌, subst, inl, inr, arith}
-use Rattle.std.proofs.lemmas.Bool.{cases_Bool, ltb-false, ltb-true}
+use Rattle.std.specs.Cmp.{first_so, second_so}
+use Rattle.std.proofs.lemmas.Bool.{and_from, cases_Bool, ltb-false, ltb-true}
 use Rattle.std.proofs.lemmas.Option.{slice_get_cases, slice_get_past, slice_get-get_or}
 use Rattle.std.proofs.lemmas.List.Folds.{find-set, find_past, find_at}
 use Rattle.std.proofs.lemmas.List.Quantifiers.{position-Some}
@@ -54,9 +55,11 @@ use Rattle.raft_safety.specs.Trace.{
   has_voted,
   has_acked,
   has_campaigned,
+  counts_votes,
   hold_no_config,
   is_earlier,
   is_known_by,
+  is_prefix,
   is_quorum_of_log,
   same_leader,
   term_in,
@@ -64,11 +67,11 @@ use Rattle.raft_safety.specs.Trace.{
   and_append,
   and_restart,
 }
-use Rattle.raft_safety.specs.AppliedTrace.{hold_at_most_one, some_upto}
+use Rattle.raft_safety.specs.AppliedTrace.{has_votes_by, hold_at_most_one, some_upto}
 use Rattle.raft_safety.specs.Counted.{is_elected_when, tests_by}
 use Rattle.raft_safety.specs.declared.checker.counting.ConfigsCount.{ConfigsCount}
 use Rattle.raft_safety.specs.declared.checker.counting.ConfigsCount.TheVariants.{WhenAppended, WhenApplied}
-use Rattle.raft_safety.specs.Inner.Seen.{committed_in, tally, SeesLeader, SeesNoLeader, SeesLeaders, find_leader}
+use Rattle.raft_safety.specs.Inner.Seen.{committed_in, tally, IsElectionOf, SeesLeader, SeesNoLeader, SeesLeaders, find_leader}
 use Rattle.raft_safety.specs.Inner.CheckerState.{LeaderState}
 use Rattle.raft_safety.proofs.lemmas.TestLemmas.{leader_right}
 use Rattle.raft_safety.proofs.lemmas.CheckedServerLemmas.{place_of}
@@ -142,6 +145,28 @@ found_some {X} p xs i e =
     go (inl r) lt = (r.0, find_at p xs ∙ r.2)
     go (inr r) lt = let h : length xs ≤ position_or_len p xs = r.0 in absurd (omega arith)
 
+-- ---- tests that more passes
+
+or_more : (a b c : Bool) → (a || c) ≡ true → (a || (b || c)) ≡ true
+or_more true b c h = refl
+or_more false true c h = refl
+or_more false false c h = h
+
+and_more : (a b c : Bool) → (a ≡ true → b ≡ true) → (a && c) ≡ true → (b && c) ≡ true
+and_more true b c f h = and_from b c (f refl) h
+and_more false b c f h = absurd (cc)
+
+some_or : (a b c d : Bool) → (a ≡ true → b ≡ true) → (c ≡ true → d ≡ true) → (a || c) ≡ true → (b || d) ≡ true
+some_or true b c d f g h = rw (f refl) refl
+some_or false true c d f g h = refl
+some_or false false c d f g h = g h
+
+some_more : (n : ℕ) (f g : ℕ → Bool) → ((a : ℕ) → f a ≡ true → g a ≡ true) → some_upto n f ≡ true
+    → some_upto n g ≡ true
+some_more zero f g more h = more zero h
+some_more (suc n) f g more h =
+    some_or (f (suc n)) (g (suc n)) (some_upto n f) (some_upto n g) (more (suc n)) (λ e. some_more n f g more e) h
+
 module _ {T ID D : Type 0} (k : Tests T ID D (Option D)) (exact : AreExact k) where
   -- nothing changes for the candidate or leader of a term
   pub record SameFor (es new : List (TraceEvent T ID D)) (u : T) (d : ID) : Type 0 where
@@ -152,15 +177,18 @@ module _ {T ID D : Type 0} (k : Tests T ID D (Option D)) (exact : AreExact k) wh
     pub acked : (v : ID) (n : ℕ)
         → has_acked k u d n (events_in k new v) ≡ has_acked k u d n (events_in k es v)
     pub committed : committed_in k new u d ≡ committed_in k es u d
-    pub elected : is_elected_when k new u d ≡ is_elected_when k es u d
+    pub elected : (noted : Bool) → IsElectionOf k.counting (is_elected_when k es u d) noted
+        → IsElectionOf k.counting (is_elected_when k new u d) noted
 
   -- a candidate stays elected, or not elected, if its log, its votes and what is known to it stay
   pub elected_same : (es new : List (TraceEvent T ID D)) (u : T) (d : ID)
       → candidate_log_in k new u d ≡ candidate_log_in k es u d
       → ((v : ID) → has_voted k u d (events_in k new v) ≡ has_voted k u d (events_in k es v))
       → ((p : List (Entry T D)) → is_known_by k (is_earlier k u) p new ≡ is_known_by k (is_earlier k u) p es)
-      → is_elected_when k new u d ≡ is_elected_when k es u d
-  elected_same es new u d log voted known = go k.counting
+      → (noted : Bool) → IsElectionOf k.counting (is_elected_when k es u d) noted
+      → IsElectionOf k.counting (is_elected_when k new u d) noted
+  elected_same es new u d log voted known noted h =
+      subst (λ (b : Bool). IsElectionOf k.counting b noted) (sym (go k.counting)) h
     where
       go : (w : ConfigsCount)
           → (tests_by k w).is_elected new u d ≡ (tests_by k w).is_elected es u d
@@ -169,6 +197,41 @@ module _ {T ID D : Type 0} (k : Tests T ID D (Option D)) (exact : AreExact k) wh
           λ i. voted d i && some_upto (length (log i))
           (λ a. (hold_no_config k (take a (log i)) || known (take a (log i)) i)
           && (hold_at_most_one k (drop a (log i)) && is_quorum_of_log k (take a (log i)) (λ v. voted v i)))
+
+  -- whether a candidate is elected is noted when it has got a vote
+  pub election_is : (elected noted : Bool) → elected ≡ noted → IsElectionOf k.counting elected noted
+  election_is elected noted e = go k.counting
+    where
+      go : (w : ConfigsCount) → IsElectionOf w elected noted
+      go WhenAppended = e
+      go WhenApplied = λ h. e ∙ h
+
+  -- a candidate that is elected stays elected when more is known
+  pub elected_still : (es : List (TraceEvent T ID D)) (t : T) (c : ID) (n m : ℕ) (u : T) (d : ID) (noted : Bool)
+      → IsElectionOf k.counting (is_elected_when k es u d) noted
+      → IsElectionOf k.counting (is_elected_when k (Committed c t n m ∷ es) u d) noted
+  elected_still es t c n m u d noted = go k.counting
+    where
+      log : List (Entry T D)
+      log = candidate_log_in k es u d
+
+      more : (a : ℕ) → has_votes_by k es u d a ≡ true → has_votes_by k (Committed c t n m ∷ es) u d a ≡ true
+      more a h =
+          and_more (counts_votes k es u d a) (counts_votes k (Committed c t n m ∷ es) u d a)
+          (hold_at_most_one k (drop a log) && is_quorum_of_log k (take a log) (λ v. has_voted k u d (events_in k es v)))
+          (or_more (hold_no_config k (take a log))
+          (is_earlier k u t m && is_prefix k (take a log) (take n (leader_log_in k es t c)))
+          (is_known_by k (is_earlier k u) (take a log) es)) h
+
+      go : (w : ConfigsCount) → IsElectionOf w ((tests_by k w).is_elected es u d) noted
+          → IsElectionOf w ((tests_by k w).is_elected (Committed c t n m ∷ es) u d) noted
+      go WhenAppended h = h
+      go WhenApplied h =
+          λ yes. and_from (has_voted k u d (events_in k es d))
+          (some_upto (length log) (has_votes_by k (Committed c t n m ∷ es) u d))
+          (first_so (has_voted k u d (events_in k es d)) (some_upto (length log) (has_votes_by k es u d)) (h yes))
+          (some_more (length log) (has_votes_by k es u d) (has_votes_by k (Committed c t n m ∷ es) u d) more
+          (second_so (has_voted k u d (events_in k es d)) (some_upto (length log) (has_votes_by k es u d)) (h yes)))
 
   -- a candidate is elected by those who have voted for it
   pub elected_by : (es : List (TraceEvent T ID D)) (t : T) (c : ID) (log : List (Entry T D))
@@ -203,7 +266,7 @@ module _ {T ID D : Type 0} (k : Tests T ID D (Option D)) (exact : AreExact k) wh
     voted = λ v. same.voted v ∙ sees.voted v;
     distinct = sees.distinct;
     own_vote = sees.own_vote;
-    elected = same.elected ∙ sees.elected;
+    elected = same.elected l.elected sees.elected;
     acked = λ v n. same.acked v n ∙ sees.acked v n;
     committed = same.committed ∙ sees.committed;
     within = sees.within;
@@ -451,17 +514,15 @@ module _ {T ID D : Type 0} (k : Tests T ID D (Option D)) (exact : AreExact k) wh
   }
 
   pub commit_of_other : (es : List (TraceEvent T ID D)) (t u : T) (c d : ID) (n m : ℕ)
-      → same_leader k t c u d ≡ false
-      → is_elected_when k (Committed c t n m ∷ es) u d ≡ is_elected_when k es u d
-      → SameFor es (Committed c t n m ∷ es) u d
-  commit_of_other es t u c d n m e elected = record {
+      → same_leader k t c u d ≡ false → SameFor es (Committed c t n m ∷ es) u d
+  commit_of_other es t u c d n m e = record {
     campaigned = refl;
     candidate_log = refl;
     leader_log = refl;
     voted = λ v. refl;
     acked = λ v m. refl;
     committed = rw e refl;
-    elected = elected;
+    elected = elected_still es t c n m u d;
   }
 
   pub apply_same : (es : List (TraceEvent T ID D)) (s : ID) (t u : T) (c d : ID) (n : ℕ)

@@ -137,6 +137,7 @@ use Rattle.raft_safety.specs.Checker.{HasSeen}
 use Rattle.raft_safety.specs.AppliedTrace.{hold_at_most_one, may_count_acks}
 use Rattle.raft_safety.specs.Inner.Seen.{
   tally,
+  IsElectionOf,
   SeesServer,
   committed_in,
   kept_at,
@@ -147,7 +148,7 @@ use Rattle.raft_safety.specs.Inner.Seen.{
   find_server,
   find_leader,
 }
-use Rattle.raft_safety.proofs.lemmas.RuleLemmas.{first_none, rest_none, first_two}
+use Rattle.raft_safety.proofs.lemmas.RuleLemmas.{first_none, rest_none}
 use Rattle.raft_safety.specs.declared.rule.Rule.{Rule}
 use Rattle.raft_safety.specs.Inner.CheckerState.{ServerState}
 use Rattle.raft_safety.specs.Inner.CheckerState.{LeaderState}
@@ -182,6 +183,8 @@ use Rattle.raft_safety.proofs.lemmas.CheckedLeaderLemmas.{
   campaign_of_other,
   elected_by,
   elected_same,
+  elected_still,
+  election_is,
   grant_to_other,
   found_at,
   none_found,
@@ -200,15 +203,16 @@ pub append_first : {T N D : Type 0} (same : Entry T D → Entry T D → Bool) (s
     (l : LeaderState T N D) (r n : ℕ) (sent : List (Entry T D)) → append_rule same s l r n sent ≡ None
     → (s.term ≤ r) × (n ≤ length s.log)
 append_first same s l r n sent free =
-    let rules : (nat_le s.term r ≡ true) × (nat_le n (length s.log) ≡ true) =
-    first_two l.elected (nat_le s.term r) (nat_le n (length s.log)) NotElected PassedTerm MissingEntries
-    (unless (nat_le (common_len same s.log l.log) (n + common_len same (drop n s.log) sent))
+    let drops : Option Rule = unless (nat_le (common_len same s.log l.log) (n + common_len same (drop n s.log) sent))
     DropsMatching
     (unless (nat_eq (common_len same (drop n s.log) sent) (length sent)
     || (nat_le n (common_len same s.log l.log)
-    && nat_eq (common_len same (drop n l.log) sent) (length sent))) ForeignEntries None))
-    free in
-    (leb-true s.term r rules.0, leb-true n (length s.log) rules.1)
+    && nat_eq (common_len same (drop n l.log) sent) (length sent))) ForeignEntries None) in
+    let missing : Option Rule = unless (nat_le n (length s.log)) MissingEntries drops in (
+      leb-true s.term r (first_none (nat_le s.term r) PassedTerm missing free),
+      leb-true n (length s.log)
+          (first_none (nat_le n (length s.log)) MissingEntries drops (rest_none (nat_le s.term r) PassedTerm missing free)),
+    )
 
 module _ {T ID D M : Type 0} (k : Tests T ID D M) where
   pub more_allowed : (e : TraceEvent T ID D) (es : List (TraceEvent T ID D))
@@ -404,19 +408,18 @@ module _ {T ID D : Type 0} (k : Tests T ID D (Option D)) (exact : AreExact k) wh
 
   pub append_right : (es : List (TraceEvent T ID D)) (id : ID) (t : T) (c : ID) (n : ℕ)
       (sent : List (Entry T D)) (s : ServerState T ID D) (l : LeaderState T ID D)
-      → SeesServer k (events_in k es id) s → SeesLeader k es t c l
+      → SeesServer k (events_in k es id) s → SeesLeader k es t c l → is_elected_when k es t c ≡ true
       → first_broken k (Appended id t c n sent) es ≡ append_rule (same_entry k) s l (k.rank t) n sent
-  append_right es id t c n sent s l sees leads =
-      rw (leads.elected, sees.term, sees.log, leads.leader_log)
+  append_right es id t c n sent s l sees leads elected =
+      rw (elected, sees.term, sees.log, leads.leader_log)
       (inner (cases_Bool (nat_le n (length s.log))))
     where
       inner : (nat_le n (length s.log) ≡ true) ⊎ (nat_le n (length s.log) ≡ false)
-          → unless l.elected NotElected
-          (unless (nat_le s.term (k.rank t)) PassedTerm
+          → unless (nat_le s.term (k.rank t)) PassedTerm
           (unless (nat_le n (length s.log)) MissingEntries
           (unless (is_prefix k (common_prefix k s.log l.log) (take n s.log ++ sent)) DropsMatching
           (unless (is_prefix k (take n s.log ++ sent) s.log
-          || is_prefix k (take n s.log ++ sent) l.log) ForeignEntries None))))
+          || is_prefix k (take n s.log ++ sent) l.log) ForeignEntries None)))
           ≡ append_rule (same_entry k) s l (k.rank t) n sent
       inner (inl e) =
           let h : n ≤ length s.log = leb-true n (length s.log) e in
@@ -433,7 +436,7 @@ module _ {T ID D : Type 0} (k : Tests T ID D (Option D)) (exact : AreExact k) wh
       (i j : ℕ) (s new : ServerState T ID D) (l : LeaderState T ID D)
       → position (λ (x : ServerState T ID D). k.same_id x.id id) servers ≡ Some i → s ≡ get_or servers i s
       → position (λ (x : LeaderState T ID D). same_leader k x.term x.id t c) leaders ≡ Some j
-      → l ≡ get_or leaders j l
+      → l ≡ get_or leaders j l → is_elected_when k es t c ≡ true
       → HasSeen k es servers leaders → append_rule (same_entry k) s l (k.rank t) n sent ≡ None
       → new.id ≡ s.id → new.term ≡ max s.term (k.rank t) → new.voted ≡ s.voted → new.log ≡ take n s.log ++ sent
       → new.durable ≡ min s.durable (n + common_len (same_entry k) (drop n s.log) sent)
@@ -441,7 +444,7 @@ module _ {T ID D : Type 0} (k : Tests T ID D (Option D)) (exact : AreExact k) wh
       (n + common_len (same_entry k) (drop n s.log) sent))
       → (first_broken k (Appended id t c n sent) es ≡ None)
       × HasSeen k (Appended id t c n sent ∷ es) (set servers i new) leaders
-  append_seen es id t c n sent servers leaders i j s new l at_i is at_j is_l seen free same_id term vote log dur kept = (
+  append_seen es id t c n sent servers leaders i j s new l at_i is at_j is_l elected seen free same_id term vote log dur kept = (
     ok,
     record {
       allowed = more_allowed k (Appended id t c n sent) es ok seen.allowed;
@@ -462,7 +465,7 @@ module _ {T ID D : Type 0} (k : Tests T ID D (Option D)) (exact : AreExact k) wh
       at_l = rw is_l (leader_seen es leaders t c j l seen.see_leaders at_j)
 
       ok : first_broken k (Appended id t c n sent) es ≡ None
-      ok = append_right es id t c n sent s l at_s at_l ∙ free
+      ok = append_right es id t c n sent s l at_s at_l elected ∙ free
 
       rules : (s.term ≤ k.rank t) × (n ≤ length s.log)
       rules = append_first (same_entry k) s l (k.rank t) n sent free
@@ -481,12 +484,11 @@ module _ {T ID D : Type 0} (k : Tests T ID D (Option D)) (exact : AreExact k) wh
 
   pub ack_right : (es : List (TraceEvent T ID D)) (id : ID) (t : T) (c : ID) (n : ℕ)
       (s : ServerState T ID D) (l : LeaderState T ID D) → SeesServer k (events_in k es id) s
-      → SeesLeader k es t c l
+      → SeesLeader k es t c l → is_elected_when k es t c ≡ true
       → first_broken k (Acked id t c n) es ≡ ack_rule (same_entry k) s l (k.rank t) n
-  ack_right es id t c n s l sees leads =
-      rw (leads.elected, sees.term, leads.leader_log) (ap (λ b. unless l.elected NotElected
-      (unless (nat_le (k.rank t) s.term) TermNotReached
-      (unless (nat_le n (length l.log)) NotWritten (unless b NotKept None)))) kept)
+  ack_right es id t c n s l sees leads elected =
+      rw (elected, sees.term, leads.leader_log) (ap (λ b. unless (nat_le (k.rank t) s.term) TermNotReached
+      (unless (nat_le n (length l.log)) NotWritten (unless b NotKept None))) kept)
     where
       by_len : has_kept k (k.rank t) (take n l.log) (events_in k es id)
           ≡ (is_prefix k (take n l.log) (log_after (events_in k es id))
@@ -541,12 +543,18 @@ module _ {T ID D : Type 0} (k : Tests T ID D (Option D)) (exact : AreExact k) wh
       let here : same_leader k l.term l.id t c ≡ true = rw is facts.1 in
       (facts.0, rw (same_term, same_id) here)
 
+  -- a leader of which it is noted as before whether it is elected
+  as_noted : (t : T) (c : ID) (es : List (TraceEvent T ID D)) (l new : LeaderState T ID D) → new.elected ≡ l.elected
+      → IsElectionOf k.counting (is_elected_when k es t c) l.elected
+      → IsElectionOf k.counting (is_elected_when k es t c) new.elected
+  as_noted t c es l new e h = subst (λ (b : Bool). IsElectionOf k.counting (is_elected_when k es t c) b) (sym e) h
+
   pub ack_seen : (es : List (TraceEvent T ID D)) (id : ID) (t : T) (c : ID) (n : ℕ)
       (servers : List (ServerState T ID D)) (leaders : List (LeaderState T ID D)) (i j : ℕ)
       (s new : ServerState T ID D) (l lnew : LeaderState T ID D)
       → position (λ (x : ServerState T ID D). k.same_id x.id id) servers ≡ Some i → s ≡ get_or servers i s
       → position (λ (x : LeaderState T ID D). same_leader k x.term x.id t c) leaders ≡ Some j
-      → l ≡ get_or leaders j l
+      → l ≡ get_or leaders j l → is_elected_when k es t c ≡ true
       → HasSeen k es servers leaders → ack_rule (same_entry k) s l (k.rank t) n ≡ None
       → new.id ≡ s.id → new.term ≡ s.term → new.voted ≡ s.voted → new.log ≡ s.log
       → new.durable ≡ max n s.durable → new.kept ≡ s.kept
@@ -555,7 +563,7 @@ module _ {T ID D : Type 0} (k : Tests T ID D (Option D)) (exact : AreExact k) wh
       → LeaderIs lnew l.term l.id l.start l.log l.voters l.elected l.committed
       → (first_broken k (Acked id t c n) es ≡ None)
       × HasSeen k (Acked id t c n ∷ es) (set servers i new) (set leaders j lnew)
-  ack_seen es id t c n servers leaders i j s new l lnew at_i is at_j is_l seen free same_id term vote log dur kept acked same = (
+  ack_seen es id t c n servers leaders i j s new l lnew at_i is at_j is_l elected seen free same_id term vote log dur kept acked same = (
     ok,
     record {
       allowed = more_allowed k (Acked id t c n) es ok seen.allowed;
@@ -578,8 +586,8 @@ module _ {T ID D : Type 0} (k : Tests T ID D (Option D)) (exact : AreExact k) wh
             own_vote = rw same.voters at_l.own_vote;
             elected =
                 elected_same k exact es (Acked id t c n ∷ es) t c refl
-                (λ v. ack_no_vote k exact (k.same_id id v) t t c c n (events_in k es v)) (λ p. refl)
-                ∙ at_l.elected ∙ sym same.elected;
+                (λ v. ack_no_vote k exact (k.same_id id v) t t c c n (events_in k es v)) (λ p. refl) lnew.elected
+                (as_noted t c es l lnew same.elected at_l.elected);
             acked = λ v m. counted v m (k.same_id id v) refl ∙ sym (acked v m);
             committed = at_l.committed ∙ sym same.committed;
             within = rw (same.committed, same.log) at_l.within;
@@ -596,7 +604,7 @@ module _ {T ID D : Type 0} (k : Tests T ID D (Option D)) (exact : AreExact k) wh
       at_l = rw is_l (leader_seen es leaders t c j l seen.see_leaders at_j)
 
       ok : first_broken k (Acked id t c n) es ≡ None
-      ok = ack_right es id t c n s l at_s at_l ∙ free
+      ok = ack_right es id t c n s l at_s at_l elected ∙ free
 
       place : (j < length leaders) × (same_leader k lnew.term lnew.id t c ≡ true)
       place = leader_place leaders t c j l lnew at_j is_l same.term same.id
@@ -682,10 +690,11 @@ module _ {T ID D : Type 0} (k : Tests T ID D (Option D)) (exact : AreExact k) wh
                 distinct = distinct;
                 own_vote = own;
                 elected =
-                    elected_by k exact (Granted id t c ∷ es) t c (take l.start l.log)
+                    election_is k exact (is_elected_when k (Granted id t c ∷ es) t c) lnew.elected
+                    (elected_by k exact (Granted id t c ∷ es) t c (take l.start l.log)
                     (is_member k.same_id lnew.voters) at_l.candidate_log votes own
                     ∙ vote_tally k.counting es id t c (take l.start l.log) (is_member k.same_id lnew.voters)
-                    ∙ sym elected;
+                    ∙ sym elected);
                 acked = λ v m. any_vote_no_ack k exact (k.same_id id v) t t c c m (events_in k es v) ∙ at_l.acked v m
                     ∙ sym (ap (λ x. has_acked_to k.same_id x v m) acked);
                 committed = at_l.committed ∙ sym same.committed;
@@ -821,9 +830,10 @@ module _ {T ID D : Type 0} (k : Tests T ID D (Option D)) (exact : AreExact k) wh
             distinct = rw same.voters (unfold IsDistinct in (tt, tt));
             own_vote = rw same.voters self_vote;
             elected =
-                elected_by k exact (Campaigned c t ∷ es) t c s.log (is_member k.same_id (c ∷ [])) log0 votes self_vote
+                election_is k exact (is_elected_when k (Campaigned c t ∷ es) t c) lnew.elected
+                (elected_by k exact (Campaigned c t ∷ es) t c s.log (is_member k.same_id (c ∷ [])) log0 votes self_vote
                 ∙ campaign_tally k.counting es t c s.log (is_member k.same_id (c ∷ []))
-                ∙ sym elected;
+                ∙ sym elected);
             acked = λ v m. vote_no_ack k exact (k.same_id c v) t t c c m (events_in k es v) ∙ none.acked v m
                 ∙ sym (ap (λ x. has_acked_to k.same_id x v m) acked);
             committed = none.committed ∙ sym same.committed;
@@ -954,10 +964,10 @@ module _ {T ID D : Type 0} (k : Tests T ID D (Option D)) (exact : AreExact k) wh
 
   pub write_right : (es : List (TraceEvent T ID D)) (t : T) (c : ID) (e : Entry T D)
       (l : LeaderState T ID D) (holds : D → Bool) → ((d : D) → k.config_of d ≡ config_in holds d)
-      → k.initial ≡ None → SeesLeader k es t c l
+      → k.initial ≡ None → SeesLeader k es t c l → is_elected_when k es t c ≡ true
       → first_broken k (Wrote c t e) es ≡ write_rule k.counting k.same_term holds k.intersect l t e
-  write_right es t c e l holds is initial leads =
-      rw leads.elected (ap (λ x. unless l.elected NotElected (unless (k.same_term e.term t) OtherTerm x)) proposal)
+  write_right es t c e l holds is initial leads elected =
+      rw elected (ap (λ x. unless (k.same_term e.term t) OtherTerm x) proposal)
     where
       configs : k.config_of ≡ config_in holds
       configs = λ q d. is d q
@@ -1025,8 +1035,8 @@ module _ {T ID D : Type 0} (k : Tests T ID D (Option D)) (exact : AreExact k) wh
             distinct = rw same.voters at_l.distinct;
             own_vote = rw same.voters at_l.own_vote;
             elected =
-                elected_same k exact es (Wrote c t e ∷ es) t c refl (λ v. refl) (λ p. refl)
-                ∙ at_l.elected ∙ sym same.elected;
+                elected_same k exact es (Wrote c t e ∷ es) t c refl (λ v. refl) (λ p. refl) lnew.elected
+                (as_noted t c es l lnew same.elected at_l.elected);
             acked = λ v m. at_l.acked v m ∙ sym (ap (λ x. has_acked_to k.same_id x v m) acked);
             committed = at_l.committed ∙ sym same.committed;
             within = rw (same.committed, same.log) (within l.committed at_l.within);
@@ -1075,14 +1085,14 @@ module _ {T ID D : Type 0} (k : Tests T ID D (Option D)) (exact : AreExact k) wh
 
   -- what a commit breaks: a rule of the leader alone, or there is no quorum
   pub commit_right : (es : List (TraceEvent T ID D)) (t : T) (c : ID) (n m : ℕ) (l : LeaderState T ID D)
-      (known follows quorum : Bool) → SeesLeader k es t c l
+      (known follows quorum : Bool) → SeesLeader k es t c l → is_elected_when k es t c ≡ true
       → (k.counting ≡ WhenApplied → may_count_acks k es t c m ≡ known)
       → (k.counting ≡ WhenApplied → hold_at_most_one k (drop m (take n l.log)) ≡ follows)
       → is_quorum_of_log k (take m l.log) (λ v. has_acked_to k.same_id l.acked v n) ≡ quorum
       → first_broken k (Committed c t n m) es
       ≡ commit_rule k.counting l n m known follows (unless quorum NoQuorum None)
-  commit_right es t c n m l known follows quorum leads is_known is_alone is =
-      λ q. unless (leads.elected q) NotElected
+  commit_right es t c n m l known follows quorum leads elected is_known is_alone is =
+      λ q. unless (elected q) NotElected
       (unless (nat_lt (start q) n) EarlierTerm (go k.counting refl q))
     where
       start : length (candidate_log_in k es t c) ≡ l.start
@@ -1110,7 +1120,7 @@ module _ {T ID D : Type 0} (k : Tests T ID D (Option D)) (exact : AreExact k) wh
       → commit_rule k.counting l n m known follows None ≡ Some r
       → commit_rule k.counting l n m known follows o ≡ Some r
   commit_first l n m known follows r o e =
-      go l.elected (nat_lt l.start n) e
+      go (nat_lt l.start n) e
     where
       three : (x y : Bool) → unless x CountedEarly (unless y NotWritten None) ≡ Some r
           → unless x CountedEarly (unless y NotWritten o) ≡ Some r
@@ -1132,19 +1142,17 @@ module _ {T ID D : Type 0} (k : Tests T ID D (Option D)) (exact : AreExact k) wh
       rest WhenAppended h = three (nat_le n m) (nat_le m (length l.log)) h
       rest WhenApplied h = five (nat_le m n) (nat_le n (length l.log)) known follows h
 
-      go : (a b : Bool)
-          → unless a NotElected (unless b EarlierTerm (counted_rule k.counting l n m known follows None)) ≡ Some r
-          → unless a NotElected (unless b EarlierTerm (counted_rule k.counting l n m known follows o)) ≡ Some r
-      go true true h = rest k.counting h
-      go true false h = h
-      go false b h = h
+      go : (b : Bool) → unless b EarlierTerm (counted_rule k.counting l n m known follows None) ≡ Some r
+          → unless b EarlierTerm (counted_rule k.counting l n m known follows o) ≡ Some r
+      go true h = rest k.counting h
+      go false h = h
 
   -- if no such rule is broken, the quorum decides
   pub commit_then : (l : LeaderState T ID D) (n m : ℕ) (known follows : Bool) (o : Option Rule)
       → commit_rule k.counting l n m known follows None ≡ None
       → commit_rule k.counting l n m known follows o ≡ o
   commit_then l n m known follows o e =
-      go l.elected (nat_lt l.start n) e
+      go (nat_lt l.start n) e
     where
       three : (x y : Bool) → unless x CountedEarly (unless y NotWritten None) ≡ None
           → unless x CountedEarly (unless y NotWritten o) ≡ o
@@ -1166,12 +1174,10 @@ module _ {T ID D : Type 0} (k : Tests T ID D (Option D)) (exact : AreExact k) wh
       rest WhenAppended h = three (nat_le n m) (nat_le m (length l.log)) h
       rest WhenApplied h = five (nat_le m n) (nat_le n (length l.log)) known follows h
 
-      go : (a b : Bool)
-          → unless a NotElected (unless b EarlierTerm (counted_rule k.counting l n m known follows None)) ≡ None
-          → unless a NotElected (unless b EarlierTerm (counted_rule k.counting l n m known follows o)) ≡ o
-      go true true h = rest k.counting h
-      go true false h = absurd (cc)
-      go false b h = absurd (cc)
+      go : (b : Bool) → unless b EarlierTerm (counted_rule k.counting l n m known follows None) ≡ None
+          → unless b EarlierTerm (counted_rule k.counting l n m known follows o) ≡ o
+      go true h = rest k.counting h
+      go false h = absurd (cc)
 
   -- the first entries of a log that reach further hold what fewer hold
   longer_prefix : (p log : List (Entry T D)) (n m : ℕ) → n ≤ m
@@ -1195,20 +1201,19 @@ module _ {T ID D : Type 0} (k : Tests T ID D (Option D)) (exact : AreExact k) wh
       → l ≡ get_or leaders j l
       → HasSeen k es servers leaders → first_broken k (Committed c t n m) es ≡ None
       → n ≤ length l.log
-      → ((u : T) (d : ID) → is_elected_when k (Committed c t n m ∷ es) u d ≡ is_elected_when k es u d)
       → lnew.acked ≡ l.acked
       → LeaderIs lnew l.term l.id l.start l.log l.voters l.elected
       (Some (max (unwrap_or l.committed 0) n))
       → (first_broken k (Committed c t n m) es ≡ None)
       × HasSeen k (Committed c t n m ∷ es) servers (set leaders j lnew)
-  commit_seen es t c n m servers leaders j l lnew at_j is_l seen ok short stable acked same = (
+  commit_seen es t c n m servers leaders j l lnew at_j is_l seen ok short acked same = (
     ok,
     record {
       allowed = more_allowed k (Committed c t n m) es ok seen.allowed;
       see_servers = seen.see_servers;
       see_leaders =
           see_leader_set k exact es (Committed c t n m ∷ es) leaders j lnew t c at_j place.1 seen.see_leaders
-          (λ u d apart. commit_of_other k exact es t u c d n m apart (stable u d))
+          (λ u d apart. commit_of_other k exact es t u c d n m apart)
           (record {
             campaigned = at_l.campaigned;
             start = rw (same.start, same.log) at_l.start;
@@ -1217,7 +1222,7 @@ module _ {T ID D : Type 0} (k : Tests T ID D (Option D)) (exact : AreExact k) wh
             voted = λ v. at_l.voted v ∙ sym (ap (λ x. is_member k.same_id x v) same.voters);
             distinct = rw same.voters at_l.distinct;
             own_vote = rw same.voters at_l.own_vote;
-            elected = stable t c ∙ at_l.elected ∙ sym same.elected;
+            elected = elected_still k exact es t c n m t c lnew.elected (as_noted t c es l lnew same.elected at_l.elected);
             acked = λ v i. at_l.acked v i ∙ sym (ap (λ x. has_acked_to k.same_id x v i) acked);
             committed = rw me (ap (λ o. Some (max (unwrap_or o 0) n)) at_l.committed ∙ sym same.committed);
             within = rw (same.committed, same.log) (reach l.committed at_l.within);
@@ -1283,26 +1288,24 @@ module _ {T ID D : Type 0} (k : Tests T ID D (Option D)) (exact : AreExact k) wh
 
   -- ---- what is applied
 
-  first_three : (a b d : Bool) (p q r : Rule) (o : Option Rule)
-      → unless a p (unless b q (unless d r o)) ≡ option_or (unless a p (unless b q (unless d r None))) o
-  first_three true true true p q r o = refl
-  first_three true true false p q r o = refl
-  first_three true false d p q r o = refl
-  first_three false b d p q r o = refl
+  first_both : (a b : Bool) (p q : Rule) (o : Option Rule)
+      → unless a p (unless b q o) ≡ option_or (unless a p (unless b q None)) o
+  first_both true true p q o = refl
+  first_both true false p q o = refl
+  first_both false b p q o = refl
 
   pub apply_right : (es : List (TraceEvent T ID D)) (servers : List (ServerState T ID D))
       (leaders : List (LeaderState T ID D)) (id : ID) (t : T) (c : ID) (n : ℕ) (s : ServerState T ID D)
       (l : LeaderState T ID D) → HasSeen k es servers leaders → SeesServer k (events_in k es id) s
-      → SeesLeader k es t c l
+      → SeesLeader k es t c l → is_elected_when k es t c ≡ true
       → first_broken k (Applied id t c n) es ≡ option_or (apply_rule (same_entry k) s l n)
       (unless (list_any (knows k.rank (same_entry k) (k.rank t) (take n l.log)) leaders) NotCommitted None)
-  apply_right es servers leaders id t c n s l seen sees leads =
-      (λ q. unless (leads.elected q) NotElected
+  apply_right es servers leaders id t c n s l seen sees leads elected =
+      (λ q. unless (elected q) NotElected
       (unless (nat_le n (length (leads.leader_log q))) NotWritten
       (unless (in_log q) NotInLog (unless (known q) NotCommitted None))))
-      ∙ first_three l.elected (nat_le n (length l.log))
-      (nat_eq (common_len (same_entry k) (take n l.log) s.log) (length (take n l.log)))
-      NotElected NotWritten NotInLog
+      ∙ first_both (nat_le n (length l.log))
+      (nat_eq (common_len (same_entry k) (take n l.log) s.log) (length (take n l.log))) NotWritten NotInLog
       (unless (list_any (knows k.rank (same_entry k) (k.rank t) (take n l.log)) leaders) NotCommitted None)
     where
       in_log : is_prefix k (take n (leader_log_in k es t c)) (log_in k es id)
@@ -1334,62 +1337,6 @@ module _ {T ID D : Type 0} (k : Tests T ID D (Option D)) (exact : AreExact k) wh
   )
 
   -- ---- events that are refused
-
-  pub restart_refused : (es : List (TraceEvent T ID D)) (id : ID) (old servers : List (ServerState T ID D))
-      (leaders : List (LeaderState T ID D)) (i n : ℕ) (s : ServerState T ID D) (r : Rule)
-      → HasPlace (λ (x : ServerState T ID D). k.same_id x.id id) id old servers i → s ≡ get_or servers i s
-      → HasSeen k es old leaders → restart_rule s n ≡ Some r
-      → (first_broken k (Restarted id n) es ≡ Some r) × HasSeen k es servers leaders
-  restart_refused es id old servers leaders i n s r place is seen e =
-      let now : HasSeen k es servers leaders = see_place es id old servers i leaders place seen in
-      let at_s : SeesServer k (events_in k es id) s =
-      rw is (server_seen es servers id i s now.see_servers place.0) in
-      (restart_right es id s n at_s ∙ e, now)
-
-  pub append_refused : (es : List (TraceEvent T ID D)) (id : ID) (t : T) (c : ID) (n : ℕ)
-      (sent : List (Entry T D)) (old servers : List (ServerState T ID D)) (leaders : List (LeaderState T ID D))
-      (i j : ℕ) (s : ServerState T ID D) (l : LeaderState T ID D) (r : Rule)
-      → HasPlace (λ (x : ServerState T ID D). k.same_id x.id id) id old servers i → s ≡ get_or servers i s
-      → position (λ (x : LeaderState T ID D). same_leader k x.term x.id t c) leaders ≡ Some j
-      → l ≡ get_or leaders j l
-      → HasSeen k es old leaders → append_rule (same_entry k) s l (k.rank t) n sent ≡ Some r
-      → (first_broken k (Appended id t c n sent) es ≡ Some r) × HasSeen k es servers leaders
-  append_refused es id t c n sent old servers leaders i j s l r place is at_j is_l seen e =
-      let now : HasSeen k es servers leaders = see_place es id old servers i leaders place seen in
-      let at_s : SeesServer k (events_in k es id) s =
-      rw is (server_seen es servers id i s now.see_servers place.0) in
-      let at_l : SeesLeader k es t c l = rw is_l (leader_seen es leaders t c j l seen.see_leaders at_j) in
-      (append_right es id t c n sent s l at_s at_l ∙ e, now)
-
-  pub ack_refused : (es : List (TraceEvent T ID D)) (id : ID) (t : T) (c : ID) (n : ℕ)
-      (old servers : List (ServerState T ID D)) (leaders : List (LeaderState T ID D))
-      (i j : ℕ) (s : ServerState T ID D) (l : LeaderState T ID D) (r : Rule)
-      → HasPlace (λ (x : ServerState T ID D). k.same_id x.id id) id old servers i → s ≡ get_or servers i s
-      → position (λ (x : LeaderState T ID D). same_leader k x.term x.id t c) leaders ≡ Some j
-      → l ≡ get_or leaders j l
-      → HasSeen k es old leaders → ack_rule (same_entry k) s l (k.rank t) n ≡ Some r
-      → (first_broken k (Acked id t c n) es ≡ Some r) × HasSeen k es servers leaders
-  ack_refused es id t c n old servers leaders i j s l r place is at_j is_l seen e =
-      let now : HasSeen k es servers leaders = see_place es id old servers i leaders place seen in
-      let at_s : SeesServer k (events_in k es id) s =
-      rw is (server_seen es servers id i s now.see_servers place.0) in
-      let at_l : SeesLeader k es t c l = rw is_l (leader_seen es leaders t c j l seen.see_leaders at_j) in
-      (ack_right es id t c n s l at_s at_l ∙ e, now)
-
-  pub grant_refused : (es : List (TraceEvent T ID D)) (id : ID) (t : T) (c : ID)
-      (old servers : List (ServerState T ID D)) (leaders : List (LeaderState T ID D))
-      (i j : ℕ) (s : ServerState T ID D) (l : LeaderState T ID D) (r : Rule)
-      → HasPlace (λ (x : ServerState T ID D). k.same_id x.id id) id old servers i → s ≡ get_or servers i s
-      → position (λ (x : LeaderState T ID D). same_leader k x.term x.id t c) leaders ≡ Some j
-      → l ≡ get_or leaders j l
-      → HasSeen k es old leaders → grant_rule k.rank k.same_id s l id (k.rank t) c ≡ Some r
-      → (first_broken k (Granted id t c) es ≡ Some r) × HasSeen k es servers leaders
-  grant_refused es id t c old servers leaders i j s l r place is at_j is_l seen e =
-      let now : HasSeen k es servers leaders = see_place es id old servers i leaders place seen in
-      let at_s : SeesServer k (events_in k es id) s =
-      rw is (server_seen es servers id i s now.see_servers place.0) in
-      let at_l : SeesLeader k es t c l = rw is_l (leader_seen es leaders t c j l seen.see_leaders at_j) in
-      (grant_right es id t c s l at_s at_l ∙ e, now)
 
   pub campaign_refused : (es : List (TraceEvent T ID D)) (t : T) (c : ID)
       (old servers : List (ServerState T ID D)) (leaders : List (LeaderState T ID D)) (i : ℕ) (s : ServerState T ID D)

@@ -82,7 +82,7 @@ use Rattle.raft_safety.specs.Trace.{
 }
 use Rattle.raft_safety.specs.Counted.{first_broken, is_elected_when}
 use Rattle.raft_safety.specs.AppliedTrace.{hold_at_most_one, is_shorter, may_count_acks, some_upto}
-use Rattle.raft_safety.specs.Inner.Known.{CommitState, SeesKnownBy, commit_in, elected_in}
+use Rattle.raft_safety.specs.Inner.Known.{CommitState, SeesKnownBy, commit_in, elected_in, is_applied}
 use Rattle.raft_safety.specs.declared.checker.counting.ConfigsCount.{ConfigsCount}
 use Rattle.raft_safety.specs.declared.checker.counting.ConfigsCount.TheVariants.{WhenAppended, WhenApplied}
 use Rattle.raft_safety.specs.declared.checker.known.Commit.{Commit}
@@ -121,8 +121,8 @@ use Rattle.raft_safety.specs.Inner.Kept.{
 }
 use Rattle.raft_safety.specs.Inner.Logs.{AllLogs, AreLogs, AreWithout, HasConfig, IsChild, IsExact, config_at, log_at, no_logs}
 use Rattle.raft_safety.specs.Inner.Places.{first_of, place_of}
-use Rattle.raft_safety.specs.Inner.Seen.{SeesServer, SeesLeader, tally}
-use Rattle.raft_safety.specs.Checker.{AgreeOn, HasSeen, Keeps}
+use Rattle.raft_safety.specs.Inner.Seen.{IsElectionOf, SeesServer, SeesLeader, tally}
+use Rattle.raft_safety.specs.Checker.{AgreeOn, HasSeen, IsElectedAt, Keeps}
 use Rattle.raft_safety.specs.declared.rule.Rule.TheVariants.{
   NoCampaign,
   NotElected,
@@ -140,8 +140,8 @@ use Rattle.raft_safety.specs.declared.rule.Rule.TheVariants.{
 use Rattle.raft_safety.specs.declared.rule.Rule.{Rule}
 use Rattle.raft_safety.specs.declared.checker.server.Server.{Server}
 use Rattle.raft_safety.specs.declared.checker.leader.Leader.{Leader}
-use Rattle.raft_safety.proofs.lemmas.TestLemmas.{entry_itself, entry_right}
-use Rattle.raft_safety.proofs.lemmas.CheckedLeaderLemmas.{found_some}
+use Rattle.raft_safety.proofs.lemmas.TestLemmas.{entry_itself, entry_right, leader_right}
+use Rattle.raft_safety.proofs.lemmas.CheckedLeaderLemmas.{elected_by, found_some}
 use Rattle.raft_safety.proofs.lemmas.PlaceLemmas.{placed_more, placed_set}
 use Rattle.raft_safety.proofs.lemmas.CommitLemmas.{bounded_commit, bounded_more, bounded_same}
 use Rattle.raft_safety.proofs.lemmas.ContentLemmas.{lack_append, lack_second}
@@ -508,6 +508,15 @@ module _ {T ID D : Type 0} (k : Tests T ID D (Option D)) (exact : AreExact k) wh
       rw (item_map (leader_in p.logs) p.leaders j l is)
       (leader_seen k exact es (leaders_in p) t c j (leader_in p.logs l) keeps.seen.see_leaders (leader_place_in p t c (Some j) at))
 
+  -- the leader of a term is one of this term
+  term_of : (p : Parts T ID D) (t : T) (c : ID) (j : ℕ) (l : Leader T ID)
+      → position (is_leader t c) p.leaders ≡ Some j → l ≡ get_or p.leaders j l → l.term ≡ t
+  term_of p t c j l at is =
+      let facts : (j < length p.leaders) × (is_leader t c (get_or p.leaders j l) ≡ true)
+      × ((i : ℕ) → i < j → is_leader t c (get_or p.leaders i l) ≡ false) = position-Some (is_leader t c) p.leaders j l at in
+      let here : is_leader t c l ≡ true = subst (λ (x : Leader T ID). is_leader t c x ≡ true) (sym is) facts.1 in
+      let both = leader_right k exact l.term t l.id c here in both.0
+
   -- ---- what is kept after a change
 
   -- an event that is no commit makes nothing known
@@ -619,12 +628,12 @@ module _ {T ID D : Type 0} (k : Tests T ID D (Option D)) (exact : AreExact k) wh
   pub append_refused : (es : List (TraceEvent T ID D)) (id : ID) (t : T) (c : ID) (n : ℕ)
       (sent : List (Entry T D)) (p : Parts T ID D) (i j : ℕ) (s : Server ID) (l : Leader T ID) (r : Rule)
       → position (is_server id) p.servers ≡ Some i → s ≡ get_or p.servers i s
-      → position (is_leader t c) p.leaders ≡ Some j → l ≡ get_or p.leaders j l → Keeps k es p
+      → IsElectedAt k es t c p.leaders j → l ≡ get_or p.leaders j l → Keeps k es p
       → append_rule (same_entry k) (server_in p.logs s) (leader_in p.logs l) (k.rank t) n sent ≡ Some r
       → (first_broken k (Appended id t c n sent) es ≡ Some r) × Keeps k es p
   append_refused es id t c n sent p i j s l r at is at_j is_l keeps broken = (
     append_right k exact es id t c n sent (server_in p.logs s) (leader_in p.logs l)
-        (sees_server_at es p id i s at is keeps) (sees_leader_at es p t c j l at_j is_l keeps) ∙ broken,
+        (sees_server_at es p id i s at is keeps) (sees_leader_at es p t c j l at_j.place is_l keeps) at_j.elected ∙ broken,
     keeps,
   )
 
@@ -632,7 +641,7 @@ module _ {T ID D : Type 0} (k : Tests T ID D (Option D)) (exact : AreExact k) wh
       (sent : List (Entry T D)) (p : Parts T ID D) (i j : ℕ) (s0 s new : Server ID) (l0 l : Leader T ID)
       → position (is_server id) p.servers ≡ Some i
       → s0 ≡ get_or p.servers i s0 → s ≡ get_or p.servers i s
-      → position (is_leader t c) p.leaders ≡ Some j
+      → IsElectedAt k es t c p.leaders j
       → l0 ≡ get_or p.leaders j l0 → l ≡ get_or p.leaders j l → Keeps k es p
       → append_rule (same_entry k) (server_in p.logs s0) (leader_in p.logs l0) (k.rank t) n sent ≡ None
       → same ≡ n + common_len (same_entry k) (drop n (log_at p.logs s.log)) sent
@@ -650,7 +659,7 @@ module _ {T ID D : Type 0} (k : Tests T ID D (Option D)) (exact : AreExact k) wh
       kept rest =
       let new_log : new.log ≡ log = ap (λ (x : Server ID). x.log) rest in
       let within : i < length p.servers = within_of (is_server id) p.servers i s at in
-      let within_j : j < length p.leaders = within_of (is_leader t c) p.leaders j l at_j in
+      let within_j : j < length p.leaders = within_of (is_leader t c) p.leaders j l at_j.place in
       let one : s0 ≡ s = same_item p.servers i s0 s within is0 is in
       let other : l0 ≡ l = same_item p.leaders j l0 l within_j is_l0 is_l in
       let now : append_rule (same_entry k) (server_in p.logs s) (leader_in p.logs l) (k.rank t) n sent ≡ None =
@@ -659,7 +668,7 @@ module _ {T ID D : Type 0} (k : Tests T ID D (Option D)) (exact : AreExact k) wh
       other free) in
       let done = append_seen k exact es id t c n sent (servers_in p) (leaders_in p) i j (server_in p.logs s) (server_in p.logs new)
       (leader_in p.logs l) (server_place p id i at) (item_map (server_in p.logs) p.servers i s is)
-      (leader_place_in p t c (Some j) at_j) (item_map (leader_in p.logs) p.leaders j l is_l) keeps.seen now
+      (leader_place_in p t c (Some j) at_j.place) (item_map (leader_in p.logs) p.leaders j l is_l) at_j.elected keeps.seen now
       (ap (λ (x : Server ID). x.id) rest) term (ap (λ (x : Server ID). x.voted) rest)
       (ap (log_at p.logs) new_log ∙ is_log now)
       (ap (λ (x : Server ID). x.durable) rest ∙ ap (λ m. min s.durable m) is_same)
@@ -788,8 +797,9 @@ module _ {T ID D : Type 0} (k : Tests T ID D (Option D)) (exact : AreExact k) wh
           ap (set (leaders_in p) j) (equal ∙ item_map (leader_in p.logs) p.leaders j l is)
           ∙ set-get_or (leaders_in p) j (leader_in p.logs l)
 
-  -- ---- nothing is kept of the leader
+  -- ---- which leaders are elected
 
+  -- nothing is kept of the leader
   pub unled : (es : List (TraceEvent T ID D)) (t : T) (c : ID) (p : Parts T ID D)
       → position (is_leader t c) p.leaders ≡ None → Keeps k es p
       → (is_elected_when k es t c ≡ false) × (has_campaigned k t c es ≡ false)
@@ -797,15 +807,79 @@ module _ {T ID D : Type 0} (k : Tests T ID D (Option D)) (exact : AreExact k) wh
       let none = no_leader k exact es t c (servers_in p) (leaders_in p) (leader_place_in p t c None absent) keeps.seen in
       (none.0, none.1)
 
+  -- a leader of which it is noted that it is elected
+  pub noted_leader : (es : List (TraceEvent T ID D)) (t : T) (c : ID) (p : Parts T ID D) (j : ℕ) (l : Leader T ID)
+      → position (is_leader t c) p.leaders ≡ Some j → l ≡ get_or p.leaders j l → Keeps k es p → l.elected ≡ true
+      → IsElectedAt k es t c p.leaders j
+  noted_leader es t c p j l at is keeps noted = record { place = at; elected = go k.counting at_l.elected }
+    where
+      at_l : SeesLeader k es t c (leader_in p.logs l)
+      at_l = sees_leader_at es p t c j l at is keeps
+
+      go : (w : ConfigsCount) → IsElectionOf w (is_elected_when k es t c) l.elected → is_elected_when k es t c ≡ true
+      go WhenAppended h = h ∙ noted
+      go WhenApplied h = h noted
+
+  -- if configs count from their append on, no other leader is elected
+  pub other_leader : (es : List (TraceEvent T ID D)) (t : T) (c : ID) (p : Parts T ID D) (j : ℕ) (l : Leader T ID)
+      → position (is_leader t c) p.leaders ≡ Some j → l ≡ get_or p.leaders j l → Keeps k es p → l.elected ≡ false
+      → is_applied k.counting ≡ false → is_elected_when k es t c ≡ false
+  other_leader es t c p j l at is keeps noted = go k.counting at_l.elected
+    where
+      at_l : SeesLeader k es t c (leader_in p.logs l)
+      at_l = sees_leader_at es p t c j l at is keeps
+
+      go : (w : ConfigsCount) → IsElectionOf w (is_elected_when k es t c) l.elected → is_applied w ≡ false
+          → is_elected_when k es t c ≡ false
+      go WhenAppended h e = h ∙ noted
+      go WhenApplied h e = absurd (cc)
+
+  -- what is known by the events is known by the commits that are kept
+  pub tally_known : (w : ConfigsCount) (es : List (TraceEvent T ID D)) (commits : List (CommitState T D))
+      → SeesKnownBy k w es commits → (t : T) (log : List (Entry T D)) (voters : ID → Bool)
+      → tally k w es t log voters ≡ elected_in k w commits t log voters
+  tally_known WhenAppended es commits sees t log voters = refl
+  tally_known WhenApplied es commits sees t log voters =
+      λ q. some_upto (length log)
+      (λ a. (hold_no_config k (take a log) || (earlier (take a log) ∙ sees t 0 (take a log)) q)
+      && (hold_at_most_one k (drop a log) && is_quorum_of_log k (take a log) voters))
+    where
+      none : (b c d : Bool) → d ≡ false → b ≡ (b || (c && d))
+      none true c d e = refl
+      none false true d e = sym e
+      none false false d e = refl
+
+      earlier : (p : List (Entry T D))
+          → is_known_by k (is_earlier k t) p es ≡ is_known_by k (is_shorter k t 0) p es
+      earlier p = λ q. is_known_by k (λ u m. none (nat_lt (k.rank u) (k.rank t)) (nat_eq (k.rank u) (k.rank t)) (nat_lt m 0) (le-ltb m 0 (omega arith)) q) p es
+
+  -- whether a leader is elected follows from its votes and the commits that are kept
+  pub tallied_leader : (es : List (TraceEvent T ID D)) (t : T) (c : ID) (p : Parts T ID D) (j : ℕ) (l : Leader T ID)
+      (elected : Bool) → position (is_leader t c) p.leaders ≡ Some j → l ≡ get_or p.leaders j l → Keeps k es p
+      → (l.log < length p.logs.logs → IsDistinct k.same_id l.voters.items
+      → elected ≡ elected_in k k.counting (commits_in p) l.term (take l.start (log_at p.logs l.log))
+      (is_member k.same_id l.voters.items))
+      → is_elected_when k es t c ≡ elected
+  tallied_leader es t c p j l elected at is keeps counted =
+      let at_l : SeesLeader k es t c (leader_in p.logs l) = sees_leader_at es p t c j l at is keeps in
+      let within : j < length p.leaders = within_of (is_leader t c) p.leaders j l at in
+      let term : l.term ≡ t = term_of p t c j l at is in
+      let voters : ID → Bool = is_member k.same_id l.voters.items in
+      let log : List (Entry T D) = take l.start (log_at p.logs l.log) in
+      elected_by k exact es t c log voters at_l.candidate_log at_l.voted at_l.own_vote
+      ∙ tally_known k.counting es (commits_in p) keeps.known t log voters
+      ∙ sym (counted (keeps.have_logs.of_leaders j l within is) at_l.distinct
+      ∙ ap (λ (x : T). elected_in k k.counting (commits_in p) x log voters) term)
+
   pub append_unled : (es : List (TraceEvent T ID D)) (id : ID) (t : T) (c : ID) (n : ℕ)
-      (sent : List (Entry T D)) (p : Parts T ID D) → position (is_leader t c) p.leaders ≡ None
+      (sent : List (Entry T D)) (p : Parts T ID D) → is_elected_when k es t c ≡ false
       → Keeps k es p → (first_broken k (Appended id t c n sent) es ≡ Some NotElected) × Keeps k es p
-  append_unled es id t c n sent p absent keeps = let none = unled es t c p absent keeps in (rw none.0 refl, keeps)
+  append_unled es id t c n sent p none keeps = (rw none refl, keeps)
 
   pub ack_unled : (es : List (TraceEvent T ID D)) (id : ID) (t : T) (c : ID) (n : ℕ) (p : Parts T ID D)
-      → position (is_leader t c) p.leaders ≡ None
+      → is_elected_when k es t c ≡ false
       → Keeps k es p → (first_broken k (Acked id t c n) es ≡ Some NotElected) × Keeps k es p
-  ack_unled es id t c n p absent keeps = let none = unled es t c p absent keeps in (rw none.0 refl, keeps)
+  ack_unled es id t c n p none keeps = (rw none refl, keeps)
 
   pub grant_unled : (es : List (TraceEvent T ID D)) (id : ID) (t : T) (c : ID) (p : Parts T ID D)
       → position (is_leader t c) p.leaders ≡ None
@@ -813,31 +887,31 @@ module _ {T ID D : Type 0} (k : Tests T ID D (Option D)) (exact : AreExact k) wh
   grant_unled es id t c p absent keeps = let none = unled es t c p absent keeps in (rw none.1 refl, keeps)
 
   pub write_unled : (es : List (TraceEvent T ID D)) (t : T) (c : ID) (e : Entry T D) (p : Parts T ID D)
-      → position (is_leader t c) p.leaders ≡ None
+      → is_elected_when k es t c ≡ false
       → Keeps k es p → (first_broken k (Wrote c t e) es ≡ Some NotElected) × Keeps k es p
-  write_unled es t c e p absent keeps = let none = unled es t c p absent keeps in (rw none.0 refl, keeps)
+  write_unled es t c e p none keeps = (rw none refl, keeps)
 
   pub commit_unled : (es : List (TraceEvent T ID D)) (t : T) (c : ID) (n m : ℕ) (p : Parts T ID D)
-      → position (is_leader t c) p.leaders ≡ None
+      → is_elected_when k es t c ≡ false
       → Keeps k es p → (first_broken k (Committed c t n m) es ≡ Some NotElected) × Keeps k es p
-  commit_unled es t c n m p absent keeps = let none = unled es t c p absent keeps in (rw none.0 refl, keeps)
+  commit_unled es t c n m p none keeps = (rw none refl, keeps)
 
   pub apply_unled : (es : List (TraceEvent T ID D)) (id : ID) (t : T) (c : ID) (n : ℕ) (p : Parts T ID D)
-      → position (is_leader t c) p.leaders ≡ None
+      → is_elected_when k es t c ≡ false
       → Keeps k es p → (first_broken k (Applied id t c n) es ≡ Some NotElected) × Keeps k es p
-  apply_unled es id t c n p absent keeps = let none = unled es t c p absent keeps in (rw none.0 refl, keeps)
+  apply_unled es id t c n p none keeps = (rw none refl, keeps)
 
   -- ---- acknowledgements
 
   pub ack_refused : (es : List (TraceEvent T ID D)) (id : ID) (t : T) (c : ID) (n : ℕ)
       (p : Parts T ID D) (i j : ℕ) (s : Server ID) (l : Leader T ID) (r : Rule)
       → position (is_server id) p.servers ≡ Some i → s ≡ get_or p.servers i s
-      → position (is_leader t c) p.leaders ≡ Some j → l ≡ get_or p.leaders j l → Keeps k es p
+      → IsElectedAt k es t c p.leaders j → l ≡ get_or p.leaders j l → Keeps k es p
       → ack_rule (same_entry k) (server_in p.logs s) (leader_in p.logs l) (k.rank t) n ≡ Some r
       → (first_broken k (Acked id t c n) es ≡ Some r) × Keeps k es p
   ack_refused es id t c n p i j s l r at is at_j is_l keeps broken = (
     ack_right k exact es id t c n (server_in p.logs s) (leader_in p.logs l)
-        (sees_server_at es p id i s at is keeps) (sees_leader_at es p t c j l at_j is_l keeps) ∙ broken,
+        (sees_server_at es p id i s at is keeps) (sees_leader_at es p t c j l at_j.place is_l keeps) at_j.elected ∙ broken,
     keeps,
   )
 
@@ -866,7 +940,7 @@ module _ {T ID D : Type 0} (k : Tests T ID D (Option D)) (exact : AreExact k) wh
       (p : Parts T ID D) (i j : ℕ) (s0 s new : Server ID) (l0 l lnew : Leader T ID)
       → position (is_server id) p.servers ≡ Some i
       → s0 ≡ get_or p.servers i s0 → s ≡ get_or p.servers i s
-      → position (is_leader t c) p.leaders ≡ Some j
+      → IsElectedAt k es t c p.leaders j
       → l0 ≡ get_or p.leaders j l0 → l ≡ get_or p.leaders j l → Keeps k es p
       → ack_rule (same_entry k) (server_in p.logs s0) (leader_in p.logs l0) (k.rank t) n ≡ None
       → new ≡ record s { durable = max n s.durable }
@@ -877,7 +951,7 @@ module _ {T ID D : Type 0} (k : Tests T ID D (Option D)) (exact : AreExact k) wh
       × Keeps k (Acked id t c n ∷ es) (with_leader (with_server p i new) j lnew)
   ack_done es id t c n p i j s0 s new l0 l lnew at is0 is at_j is_l0 is_l keeps free rest acked same =
       let within : i < length p.servers = within_of (is_server id) p.servers i s at in
-      let within_j : j < length p.leaders = within_of (is_leader t c) p.leaders j l at_j in
+      let within_j : j < length p.leaders = within_of (is_leader t c) p.leaders j l at_j.place in
       let one : s0 ≡ s = same_item p.servers i s0 s within is0 is in
       let other : l0 ≡ l = same_item p.leaders j l0 l within_j is_l0 is_l in
       let now : ack_rule (same_entry k) (server_in p.logs s) (leader_in p.logs l) (k.rank t) n ≡ None =
@@ -887,7 +961,7 @@ module _ {T ID D : Type 0} (k : Tests T ID D (Option D)) (exact : AreExact k) wh
       let done = ack_seen k exact es id t c n (servers_in p) (leaders_in p) i j (server_in p.logs s) (server_in p.logs new)
       (leader_in p.logs l) (leader_in p.logs lnew)
       (server_place p id i at) (item_map (server_in p.logs) p.servers i s is)
-      (leader_place_in p t c (Some j) at_j) (item_map (leader_in p.logs) p.leaders j l is_l) keeps.seen now
+      (leader_place_in p t c (Some j) at_j.place) (item_map (leader_in p.logs) p.leaders j l is_l) at_j.elected keeps.seen now
       (ap (λ (x : Server ID). x.id) rest) (ap (λ (x : Server ID). x.terms.term) rest) (ap (λ (x : Server ID). x.voted) rest)
       (ap (λ (x : Server ID). log_at p.logs x.log) rest) (ap (λ (x : Server ID). x.durable) rest)
       (ap (λ (x : Server ID). x.terms.kept) rest) acked (acked_leader p l lnew same) in (
@@ -924,25 +998,6 @@ module _ {T ID D : Type 0} (k : Tests T ID D (Option D)) (exact : AreExact k) wh
       (same_item p.servers i s0 s within is0 is)
       (subst (λ (x : Leader T ID). grant_rule k.rank k.same_id (server_in p.logs s0) (leader_in p.logs x) id (k.rank t) c ≡ None)
       (same_item p.leaders j l0 l within_j is_l0 is_l) free)
-
-  -- what is known by the events is known by the commits that are kept
-  pub tally_known : (w : ConfigsCount) (es : List (TraceEvent T ID D)) (commits : List (CommitState T D))
-      → SeesKnownBy k w es commits → (t : T) (log : List (Entry T D)) (voters : ID → Bool)
-      → tally k w es t log voters ≡ elected_in k w commits t log voters
-  tally_known WhenAppended es commits sees t log voters = refl
-  tally_known WhenApplied es commits sees t log voters =
-      λ q. some_upto (length log)
-      (λ a. (hold_no_config k (take a log) || (earlier (take a log) ∙ sees t 0 (take a log)) q)
-      && (hold_at_most_one k (drop a log) && is_quorum_of_log k (take a log) voters))
-    where
-      none : (b c d : Bool) → d ≡ false → b ≡ (b || (c && d))
-      none true c d e = refl
-      none false true d e = sym e
-      none false false d e = refl
-
-      earlier : (p : List (Entry T D))
-          → is_known_by k (is_earlier k t) p es ≡ is_known_by k (is_shorter k t 0) p es
-      earlier p = λ q. is_known_by k (λ u m. none (nat_lt (k.rank u) (k.rank t)) (nat_eq (k.rank u) (k.rank t)) (nat_lt m 0) (le-ltb m 0 (omega arith)) q) p es
 
   pub grant_done : (es : List (TraceEvent T ID D)) (id : ID) (t : T) (c : ID)
       (p : Parts T ID D) (i j len : ℕ) (s0 s m new : Server ID) (l0 l lnew : Leader T ID)
@@ -1106,18 +1161,18 @@ module _ {T ID D : Type 0} (k : Tests T ID D (Option D)) (exact : AreExact k) wh
 
   pub write_refused : (es : List (TraceEvent T ID D)) (t : T) (c : ID) (e : Entry T D) (p : Parts T ID D) (j : ℕ)
       (l : Leader T ID) (r : Rule) (holds : D → Bool) → ((d : D) → k.config_of d ≡ config_in holds d)
-      → k.initial ≡ None → position (is_leader t c) p.leaders ≡ Some j → l ≡ get_or p.leaders j l → Keeps k es p
+      → k.initial ≡ None → IsElectedAt k es t c p.leaders j → l ≡ get_or p.leaders j l → Keeps k es p
       → write_rule k.counting k.same_term holds k.intersect (leader_in p.logs l) t e ≡ Some r
       → (first_broken k (Wrote c t e) es ≡ Some r) × Keeps k es p
   write_refused es t c e p j l r holds is_holds initial at_j is_l keeps broken = (
     write_right k exact es t c e (leader_in p.logs l) holds is_holds initial
-        (sees_leader_at es p t c j l at_j is_l keeps) ∙ broken,
+        (sees_leader_at es p t c j l at_j.place is_l keeps) at_j.elected ∙ broken,
     keeps,
   )
 
   pub write_done : (es : List (TraceEvent T ID D)) (t : T) (c : ID) (e : Entry T D) (p : Parts T ID D) (j : ℕ)
       (logs : AllLogs T D) (l0 l1 l lnew : Leader T ID) (holds : D → Bool) → ((d : D) → k.config_of d ≡ config_in holds d)
-      → k.initial ≡ None → position (is_leader t c) p.leaders ≡ Some j
+      → k.initial ≡ None → IsElectedAt k es t c p.leaders j
       → l0 ≡ get_or p.leaders j l0 → l1 ≡ get_or p.leaders j l1 → l ≡ get_or p.leaders j l → Keeps k es p
       → write_rule k.counting k.same_term holds k.intersect (leader_in p.logs l0) t e ≡ None
       → (log : ℕ) → IsChild (λ d. is_some (k.config_of d)) p.logs l1.log e logs log
@@ -1133,17 +1188,17 @@ module _ {T ID D : Type 0} (k : Tests T ID D (Option D)) (exact : AreExact k) wh
       })
   write_done es t c e p j logs l0 l1 l lnew holds is_holds initial at_j is_l0 is_l1 is_l keeps free log child rest =
       let is_log : lnew.log ≡ log = ap (λ (x : Leader T ID). x.log) rest in
-      let within_j : j < length p.leaders = within_of (is_leader t c) p.leaders j l at_j in
+      let within_j : j < length p.leaders = within_of (is_leader t c) p.leaders j l at_j.place in
       let one : l0 ≡ l = same_item p.leaders j l0 l within_j is_l0 is_l in
       let other : l1 ≡ l = same_item p.leaders j l1 l within_j is_l1 is_l in
-      let at_l : SeesLeader k es t c (leader_in p.logs l) = sees_leader_at es p t c j l at_j is_l keeps in
+      let at_l : SeesLeader k es t c (leader_in p.logs l) = sees_leader_at es p t c j l at_j.place is_l keeps in
       let now : write_rule k.counting k.same_term holds k.intersect (leader_in p.logs l) t e ≡ None =
       subst (λ (x : Leader T ID). write_rule k.counting k.same_term holds k.intersect (leader_in p.logs x) t e ≡ None) one free in
       let new_log : log_at logs lnew.log ≡ log_at p.logs l.log ++ e ∷ [] =
       ap (log_at logs) is_log ∙ child.is ∙ ap (λ (x : Leader T ID). log_at p.logs x.log ++ e ∷ []) other in
       let done = write_seen k exact es t c e (servers_in p) (leaders_in p) j (leader_in p.logs l) (leader_in logs lnew)
-      (leader_place_in p t c (Some j) at_j) (item_map (leader_in p.logs) p.leaders j l is_l) keeps.seen
-      (write_right k exact es t c e (leader_in p.logs l) holds is_holds initial at_l ∙ now)
+      (leader_place_in p t c (Some j) at_j.place) (item_map (leader_in p.logs) p.leaders j l is_l) keeps.seen
+      (write_right k exact es t c e (leader_in p.logs l) holds is_holds initial at_l at_j.elected ∙ now)
       (ap (λ (x : Leader T ID). x.acked.items) rest)
       (record {
         term = ap (λ (x : Leader T ID). x.term) rest;
@@ -1210,7 +1265,7 @@ module _ {T ID D : Type 0} (k : Tests T ID D (Option D)) (exact : AreExact k) wh
           subst (LackContent k.same_content d) (sym h)
           (lack_append k.same_content d (log_at p.logs l1.log) (e ∷ [])
           (without l1.log
-          (keeps.have_logs.of_leaders j l1 (within_of (is_leader t c) p.leaders j l1 at_j) is_l1)) (apart, tt))
+          (keeps.have_logs.of_leaders j l1 (within_of (is_leader t c) p.leaders j l1 at_j.place) is_l1)) (apart, tt))
 
   -- ---- commits
 
@@ -1221,22 +1276,22 @@ module _ {T ID D : Type 0} (k : Tests T ID D (Option D)) (exact : AreExact k) wh
     pub is_alone : k.counting ≡ WhenApplied → hold_at_most_one k (drop m (take n (log_at p.logs l.log))) ≡ follows
 
   pub commit_refused : (es : List (TraceEvent T ID D)) (t : T) (c : ID) (n m : ℕ) (p : Parts T ID D) (j : ℕ)
-      (l : Leader T ID) (r : Rule) → position (is_leader t c) p.leaders ≡ Some j → l ≡ get_or p.leaders j l
+      (l : Leader T ID) (r : Rule) → IsElectedAt k es t c p.leaders j → l ≡ get_or p.leaders j l
       → Keeps k es p → (known follows : Bool) → CommitTests es t c n m p l known follows
       → commit_rule k.counting (leader_in p.logs l) n m known follows None ≡ Some r
       → (first_broken k (Committed c t n m) es ≡ Some r) × Keeps k es p
   commit_refused es t c n m p j l r at_j is_l keeps known follows tests broken =
-      let at_l : SeesLeader k es t c (leader_in p.logs l) = sees_leader_at es p t c j l at_j is_l keeps in
+      let at_l : SeesLeader k es t c (leader_in p.logs l) = sees_leader_at es p t c j l at_j.place is_l keeps in
       let quorum : Bool =
       is_quorum_of_log k (take m (log_at p.logs l.log)) (λ v. has_acked_to k.same_id l.acked.items v n) in (
-        commit_right k exact es t c n m (leader_in p.logs l) known follows quorum at_l tests.is_known tests.is_alone refl
+        commit_right k exact es t c n m (leader_in p.logs l) known follows quorum at_l at_j.elected tests.is_known tests.is_alone refl
             ∙ commit_first k exact (leader_in p.logs l) n m known follows r (unless quorum NoQuorum None) broken,
         keeps,
       )
 
   commit_short : (l : LeaderState T ID D) (n m : ℕ) (known follows : Bool)
       → commit_rule k.counting l n m known follows None ≡ None → n ≤ length l.log
-  commit_short l n m known follows e = go k.counting l.elected (nat_lt l.start n) e
+  commit_short l n m known follows e = go k.counting (nat_lt l.start n) e
     where
       two : (x y : Bool) → nat_le n m ≡ x → nat_le m (length l.log) ≡ y
           → unless x CountedEarly (unless y NotWritten None) ≡ None → n ≤ length l.log
@@ -1254,18 +1309,16 @@ module _ {T ID D : Type 0} (k : Tests T ID D (Option D)) (exact : AreExact k) wh
       four true false w h = absurd (cc)
       four false y w h = absurd (cc)
 
-      go : (w : ConfigsCount) (a b : Bool)
-          → unless a NotElected (unless b EarlierTerm (counted_rule w l n m known follows None)) ≡ None
-          → n ≤ length l.log
-      go WhenAppended true true h = two (nat_le n m) (nat_le m (length l.log)) refl refl h
-      go WhenApplied true true h = four (nat_le m n) (nat_le n (length l.log)) refl h
-      go w true false h = absurd (cc)
-      go w false b h = absurd (cc)
+      go : (w : ConfigsCount) (b : Bool)
+          → unless b EarlierTerm (counted_rule w l n m known follows None) ≡ None → n ≤ length l.log
+      go WhenAppended true h = two (nat_le n m) (nat_le m (length l.log)) refl refl h
+      go WhenApplied true h = four (nat_le m n) (nat_le n (length l.log)) refl h
+      go w false h = absurd (cc)
 
   -- the quorum of a commit is tested
   commit_tested : (es : List (TraceEvent T ID D)) (t : T) (c : ID) (n m : ℕ) (p : Parts T ID D) (j : ℕ)
       (l l1 l2 : Leader T ID) (ids : List ID) (config : Option D) (quorum : Bool)
-      → position (is_leader t c) p.leaders ≡ Some j
+      → IsElectedAt k es t c p.leaders j
       → l ≡ get_or p.leaders j l → l1 ≡ get_or p.leaders j l1 → l2 ≡ get_or p.leaders j l2
       → Keeps k es p → (known follows : Bool) → CommitTests es t c n m p l known follows
       → commit_rule k.counting (leader_in p.logs l) n m known follows None ≡ None
@@ -1274,10 +1327,10 @@ module _ {T ID D : Type 0} (k : Tests T ID D (Option D)) (exact : AreExact k) wh
       → quorum ≡ k.quorum_of config (is_member k.same_id ids)
       → first_broken k (Committed c t n m) es ≡ unless quorum NoQuorum None
   commit_tested es t c n m p j l l1 l2 ids config quorum at_j is is1 is2 keeps known follows tests free members is_config counted =
-      let within : j < length p.leaders = within_of (is_leader t c) p.leaders j l at_j in
+      let within : j < length p.leaders = within_of (is_leader t c) p.leaders j l at_j.place in
       let q1 : l1 ≡ l = same_item p.leaders j l1 l within is1 is in
       let q2 : l2 ≡ l = same_item p.leaders j l2 l within is2 is in
-      let at_l : SeesLeader k es t c (leader_in p.logs l) = sees_leader_at es p t c j l at_j is keeps in
+      let at_l : SeesLeader k es t c (leader_in p.logs l) = sees_leader_at es p t c j l at_j.place is keeps in
       let by_ids : (v : ID) → has_acked_to k.same_id l.acked.items v n ≡ is_member k.same_id ids v =
       λ v. sym (members v ∙ ap (λ (x : Leader T ID). has_acked_to k.same_id x.acked.items v n) q1) in
       let in_effect : config ≡ effective_config k.config_of k.initial (take m (log_at p.logs l.log)) =
@@ -1286,12 +1339,12 @@ module _ {T ID D : Type 0} (k : Tests T ID D (Option D)) (exact : AreExact k) wh
       ≡ quorum =
       (λ q. is_quorum_of_log k (take m (log_at p.logs l.log)) (λ v. by_ids v q))
       ∙ sym (counted ∙ ap (λ x. k.quorum_of x (is_member k.same_id ids)) in_effect) in
-      commit_right k exact es t c n m (leader_in p.logs l) known follows quorum at_l tests.is_known tests.is_alone tested
+      commit_right k exact es t c n m (leader_in p.logs l) known follows quorum at_l at_j.elected tests.is_known tests.is_alone tested
       ∙ commit_then k exact (leader_in p.logs l) n m known follows (unless quorum NoQuorum None) free
 
   pub commit_uncounted : (es : List (TraceEvent T ID D)) (t : T) (c : ID) (n m : ℕ) (p : Parts T ID D) (j : ℕ)
       (l l1 l2 : Leader T ID) (ids : List ID) (config : Option D) (quorum : Bool)
-      → position (is_leader t c) p.leaders ≡ Some j
+      → IsElectedAt k es t c p.leaders j
       → l ≡ get_or p.leaders j l → l1 ≡ get_or p.leaders j l1 → l2 ≡ get_or p.leaders j l2
       → Keeps k es p → (known follows : Bool) → CommitTests es t c n m p l known follows
       → commit_rule k.counting (leader_in p.logs l) n m known follows None ≡ None
@@ -1307,7 +1360,7 @@ module _ {T ID D : Type 0} (k : Tests T ID D (Option D)) (exact : AreExact k) wh
 
   pub commit_done : (es : List (TraceEvent T ID D)) (t : T) (c : ID) (n m : ℕ) (p : Parts T ID D) (j : ℕ)
       (l l1 l2 l3 lnew : Leader T ID) (ids : List ID) (config : Option D) (quorum : Bool)
-      → position (is_leader t c) p.leaders ≡ Some j
+      → IsElectedAt k es t c p.leaders j
       → l ≡ get_or p.leaders j l → l1 ≡ get_or p.leaders j l1 → l2 ≡ get_or p.leaders j l2
       → l3 ≡ get_or p.leaders j l3
       → Keeps k es p → (known follows : Bool) → CommitTests es t c n m p l known follows
@@ -1320,20 +1373,19 @@ module _ {T ID D : Type 0} (k : Tests T ID D (Option D)) (exact : AreExact k) wh
       → (commits : List Commit)
       → ((i : ℕ) (x : Commit) → i < length commits → x ≡ get_or commits i x → x.log < length p.logs.logs)
       → SeesKnownBy k k.counting (Committed c t n m ∷ es) (map (commit_in p.logs) commits)
-      → ((u : T) (d : ID) → is_elected_when k (Committed c t n m ∷ es) u d ≡ is_elected_when k es u d)
       → (first_broken k (Committed c t n m) es ≡ None)
       × Keeps k (Committed c t n m ∷ es) (with_commits (with_committed (with_leader p j lnew) most) commits)
   commit_done es t c n m p j l l1 l2 l3 lnew ids config quorum at_j is is1 is2 is3 keeps known follows tests free members is_config counted enough
-      rest most is_most commits have_commits sees_commits stable =
+      rest most is_most commits have_commits sees_commits =
       let tested : first_broken k (Committed c t n m) es ≡ unless quorum NoQuorum None =
       commit_tested es t c n m p j l l1 l2 ids config quorum at_j is is1 is2 keeps known follows tests free members is_config counted in
-      let within : j < length p.leaders = within_of (is_leader t c) p.leaders j l at_j in
+      let within : j < length p.leaders = within_of (is_leader t c) p.leaders j l at_j.place in
       let q3 : l ≡ l3 = same_item p.leaders j l l3 within is is3 in
       let short : n ≤ length (log_at p.logs l3.log) =
       subst (λ (x : Leader T ID). n ≤ length (log_at p.logs x.log)) q3 (commit_short (leader_in p.logs l) n m known follows free) in
       let done = commit_seen k exact es t c n m (servers_in p) (leaders_in p) j (leader_in p.logs l3) (leader_in p.logs lnew)
-      (leader_place_in p t c (Some j) at_j) (item_map (leader_in p.logs) p.leaders j l3 is3) keeps.seen
-      (tested ∙ ap (λ b. unless b NoQuorum None) enough) short stable (ap (λ (x : Leader T ID). x.acked.items) rest)
+      (leader_place_in p t c (Some j) at_j.place) (item_map (leader_in p.logs) p.leaders j l3 is3) keeps.seen
+      (tested ∙ ap (λ b. unless b NoQuorum None) enough) short (ap (λ (x : Leader T ID). x.acked.items) rest)
       (record {
         term = ap (λ (x : Leader T ID). x.term) rest;
         id = ap (λ (x : Leader T ID). x.id) rest;
@@ -1355,18 +1407,18 @@ module _ {T ID D : Type 0} (k : Tests T ID D (Option D)) (exact : AreExact k) wh
   apply_test : (es : List (TraceEvent T ID D)) (id : ID) (t : T) (c : ID) (n : ℕ) (p : Parts T ID D) (i j : ℕ)
       (s : Server ID) (l : Leader T ID)
       → position (is_server id) p.servers ≡ Some i → s ≡ get_or p.servers i s
-      → position (is_leader t c) p.leaders ≡ Some j → l ≡ get_or p.leaders j l → Keeps k es p
+      → IsElectedAt k es t c p.leaders j → l ≡ get_or p.leaders j l → Keeps k es p
       → first_broken k (Applied id t c n) es
       ≡ option_or (apply_rule (same_entry k) (server_in p.logs s) (leader_in p.logs l) n)
       (unless (list_any (knows k.rank (same_entry k) (k.rank t) (take n (log_at p.logs l.log))) (leaders_in p)) NotCommitted None)
   apply_test es id t c n p i j s l at is at_j is_l keeps =
       apply_right k exact es (servers_in p) (leaders_in p) id t c n (server_in p.logs s) (leader_in p.logs l) keeps.seen
-      (sees_server_at es p id i s at is keeps) (sees_leader_at es p t c j l at_j is_l keeps)
+      (sees_server_at es p id i s at is keeps) (sees_leader_at es p t c j l at_j.place is_l keeps) at_j.elected
 
   pub apply_refused : (es : List (TraceEvent T ID D)) (id : ID) (t : T) (c : ID) (n : ℕ) (p : Parts T ID D) (i j : ℕ)
       (s : Server ID) (l : Leader T ID) (r : Rule)
       → position (is_server id) p.servers ≡ Some i → s ≡ get_or p.servers i s
-      → position (is_leader t c) p.leaders ≡ Some j → l ≡ get_or p.leaders j l → Keeps k es p
+      → IsElectedAt k es t c p.leaders j → l ≡ get_or p.leaders j l → Keeps k es p
       → apply_rule (same_entry k) (server_in p.logs s) (leader_in p.logs l) n ≡ Some r
       → (first_broken k (Applied id t c n) es ≡ Some r) × Keeps k es p
   apply_refused es id t c n p i j s l r at is at_j is_l keeps broken = (
@@ -1381,13 +1433,13 @@ module _ {T ID D : Type 0} (k : Tests T ID D (Option D)) (exact : AreExact k) wh
   apply_known : (es : List (TraceEvent T ID D)) (id : ID) (t : T) (c : ID) (n prefix : ℕ) (p : Parts T ID D) (i j : ℕ)
       (s : Server ID) (l l2 : Leader T ID) (known : Bool)
       → position (is_server id) p.servers ≡ Some i → s ≡ get_or p.servers i s
-      → position (is_leader t c) p.leaders ≡ Some j → l ≡ get_or p.leaders j l → l2 ≡ get_or p.leaders j l2
+      → IsElectedAt k es t c p.leaders j → l ≡ get_or p.leaders j l → l2 ≡ get_or p.leaders j l2
       → Keeps k es p → apply_rule (same_entry k) (server_in p.logs s) (leader_in p.logs l) n ≡ None
       → log_at p.logs prefix ≡ take n (log_at p.logs l2.log)
       → known ≡ list_any (knows k.rank (same_entry k) (k.rank t) (log_at p.logs prefix)) (leaders_in p)
       → first_broken k (Applied id t c n) es ≡ unless known NotCommitted None
   apply_known es id t c n prefix p i j s l l2 known at is at_j is_l is_l2 keeps free first is_known =
-      let within : j < length p.leaders = within_of (is_leader t c) p.leaders j l at_j in
+      let within : j < length p.leaders = within_of (is_leader t c) p.leaders j l at_j.place in
       let q : l2 ≡ l = same_item p.leaders j l2 l within is_l2 is_l in
       let known_l : known ≡ list_any (knows k.rank (same_entry k) (k.rank t) (take n (log_at p.logs l.log))) (leaders_in p) =
       is_known ∙ ap (λ x. list_any (knows k.rank (same_entry k) (k.rank t) x) (leaders_in p))
@@ -1401,7 +1453,7 @@ module _ {T ID D : Type 0} (k : Tests T ID D (Option D)) (exact : AreExact k) wh
   pub apply_uncommitted : (es : List (TraceEvent T ID D)) (id : ID) (t : T) (c : ID) (n prefix : ℕ) (p : Parts T ID D) (i j : ℕ)
       (s : Server ID) (l l2 : Leader T ID) (known : Bool)
       → position (is_server id) p.servers ≡ Some i → s ≡ get_or p.servers i s
-      → position (is_leader t c) p.leaders ≡ Some j → l ≡ get_or p.leaders j l → l2 ≡ get_or p.leaders j l2
+      → IsElectedAt k es t c p.leaders j → l ≡ get_or p.leaders j l → l2 ≡ get_or p.leaders j l2
       → Keeps k es p → apply_rule (same_entry k) (server_in p.logs s) (leader_in p.logs l) n ≡ None
       → log_at p.logs prefix ≡ take n (log_at p.logs l2.log)
       → known ≡ list_any (knows k.rank (same_entry k) (k.rank t) (log_at p.logs prefix)) (leaders_in p)
@@ -1415,7 +1467,7 @@ module _ {T ID D : Type 0} (k : Tests T ID D (Option D)) (exact : AreExact k) wh
   pub apply_done : (es : List (TraceEvent T ID D)) (id : ID) (t : T) (c : ID) (n prefix : ℕ) (p : Parts T ID D) (i j : ℕ)
       (s : Server ID) (l l2 : Leader T ID) (known : Bool)
       → position (is_server id) p.servers ≡ Some i → s ≡ get_or p.servers i s
-      → position (is_leader t c) p.leaders ≡ Some j → l ≡ get_or p.leaders j l → l2 ≡ get_or p.leaders j l2
+      → IsElectedAt k es t c p.leaders j → l ≡ get_or p.leaders j l → l2 ≡ get_or p.leaders j l2
       → Keeps k es p → apply_rule (same_entry k) (server_in p.logs s) (leader_in p.logs l) n ≡ None
       → log_at p.logs prefix ≡ take n (log_at p.logs l2.log)
       → known ≡ list_any (knows k.rank (same_entry k) (k.rank t) (log_at p.logs prefix)) (leaders_in p)

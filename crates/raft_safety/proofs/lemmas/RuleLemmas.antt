@@ -135,13 +135,6 @@ pub rest_none : (b : Bool) (r : Rule) (o : Option Rule) → unless b r o ≡ Non
 rest_none true r o e = e
 rest_none false r o e = absurd (cc)
 
-pub first_two : (a b c : Bool) (p q r : Rule) (o : Option Rule)
-    → unless a p (unless b q (unless c r o)) ≡ None → (b ≡ true) × (c ≡ true)
-first_two true true true p q r o e = (refl, refl)
-first_two true true false p q r o e = absurd (cc)
-first_two true false c p q r o e = absurd (cc)
-first_two false b c p q r o e = absurd (cc)
-
 -- ---- an event breaks no rule exactly if it passes each test
 
 module _ {T ID D M : Type 0} (k : Tests T ID D M) (conf : ConfigTests T ID D M) where

@@ -40,7 +40,6 @@ use Rattle.raft_safety.specs.declared.rule.Rule.TheVariants.{
   DropsMatching,
   ForeignEntries,
   MissingEntries,
-  NotElected,
   PassedTerm,
 }
 use Rattle.raft_safety.proofs.lemmas.CheckedLogLemmas.{common_short}
@@ -119,8 +118,7 @@ module _ {T N D : Type 0} (same : Entry T D → Entry T D → Bool) where
       first_none _ ForeignEntries None
       (rest_none (nat_le (common_len same s.log l.log) (n + common_len same (drop n s.log) sent)) DropsMatching last
       (rest_none (nat_le n (length s.log)) MissingEntries drops
-      (rest_none (nat_le s.term r) PassedTerm missing
-      (rest_none l.elected NotElected (unless (nat_le s.term r) PassedTerm missing) free))))
+      (rest_none (nat_le s.term r) PassedTerm missing free)))
 
   -- if the server does not have the appended entries, they are the leader's
   pub appends_new : (s : ServerState T N D) (l : LeaderState T N D) (r n : ℕ) (sent : List (Entry T D))

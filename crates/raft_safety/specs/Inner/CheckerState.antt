@@ -35,7 +35,6 @@ use Rattle.raft_safety.specs.declared.rule.Rule.TheVariants.{
   PassedTerm,
   OwnCandidate,
   CandidateBehind,
-  NotElected,
   MissingEntries,
   DropsMatching,
   ForeignEntries,
@@ -133,7 +132,7 @@ abbrev pub has_committed : {T D : Type 0} → (Entry T D → Entry T D → Bool)
 has_committed same log None p = false
 has_committed same log (Some n) p = nat_eq (common_len same p (take n log)) (length p)
 
--- ---- which rule an event breaks, by what is kept of its server and of its leader
+-- ---- which rule an event breaks, by what is kept of its server and of its leader, which is elected
 
 -- a config waits for the one before it if configs count from their append on
 abbrev pub early_rule : ConfigsCount → Bool → Option Rule
@@ -153,14 +152,13 @@ module _ {T N D : Type 0} where
   abbrev pub append_rule : (Entry T D → Entry T D → Bool) → ServerState T N D → LeaderState T N D → ℕ → ℕ
       → List (Entry T D) → Option Rule
   append_rule same s l r n sent =
-      unless l.elected NotElected
-      (unless (nat_le s.term r) PassedTerm
+      unless (nat_le s.term r) PassedTerm
       (unless (nat_le n (length s.log)) MissingEntries
       (unless (nat_le (common_len same s.log l.log)
       (n + common_len same (drop n s.log) sent)) DropsMatching
       (unless (nat_eq (common_len same (drop n s.log) sent) (length sent)
       || (nat_le n (common_len same s.log l.log)
-      && nat_eq (common_len same (drop n l.log) sent) (length sent))) ForeignEntries None))))
+      && nat_eq (common_len same (drop n l.log) sent) (length sent))) ForeignEntries None)))
 
   -- the log of a server has begun with these entries since its term was at most this rank
   abbrev pub has_kept_by : (Entry T D → Entry T D → Bool) → ServerState T N D → ℕ → List (Entry T D)
@@ -173,20 +171,17 @@ module _ {T N D : Type 0} where
   abbrev pub ack_rule : (Entry T D → Entry T D → Bool) → ServerState T N D → LeaderState T N D → ℕ → ℕ
       → Option Rule
   ack_rule same s l r n =
-      unless l.elected NotElected
-      (unless (nat_le r s.term) TermNotReached
+      unless (nat_le r s.term) TermNotReached
       (unless (nat_le n (length l.log)) NotWritten
-      (unless (has_kept_by same s r (take n l.log)) NotKept None)))
+      (unless (has_kept_by same s r (take n l.log)) NotKept None))
 
   -- the first rule that a server breaks if it applies the first n entries of its leader's log, besides
   -- that they are committed
   abbrev pub apply_rule : (Entry T D → Entry T D → Bool) → ServerState T N D → LeaderState T N D → ℕ
       → Option Rule
   apply_rule same s l n =
-      unless l.elected NotElected
-      (unless (nat_le n (length l.log)) NotWritten
-      (unless (nat_eq (common_len same (take n l.log) s.log) (length (take n l.log))) NotInLog
-      None))
+      unless (nat_le n (length l.log)) NotWritten
+      (unless (nat_eq (common_len same (take n l.log) s.log) (length (take n l.log))) NotInLog None)
 
   -- the first rule that a server's restart with its first n entries breaks
   abbrev pub restart_rule : ServerState T N D → ℕ → Option Rule
@@ -208,8 +203,7 @@ module _ {T N D : Type 0} where
   abbrev pub write_rule : ConfigsCount → (T → T → Bool) → (D → Bool) → (Option D → Option D → Bool)
       → LeaderState T N D → T → Entry T D → Option Rule
   write_rule counting same_term holds intersects l t e =
-      unless l.elected NotElected
-      (unless (same_term e.term t) OtherTerm (config_rule counting holds intersects l e.content))
+      unless (same_term e.term t) OtherTerm (config_rule counting holds intersects l e.content)
 
   -- what a commit needs besides a quorum. Where it is counted is another test for each kind of configs:
   -- whether the config is known, and whether at most one follows it
@@ -223,8 +217,7 @@ module _ {T N D : Type 0} where
 
   abbrev pub commit_rule : ConfigsCount → LeaderState T N D → ℕ → ℕ → Bool → Bool → Option Rule → Option Rule
   commit_rule counting l n m known follows rest =
-      unless l.elected NotElected
-      (unless (nat_lt l.start n) EarlierTerm (counted_rule counting l n m known follows rest))
+      unless (nat_lt l.start n) EarlierTerm (counted_rule counting l n m known follows rest)
 
   -- a leader of a term of at most this rank has committed these entries
   abbrev pub knows : (T → ℕ) → (Entry T D → Entry T D → Bool) → ℕ → List (Entry T D)

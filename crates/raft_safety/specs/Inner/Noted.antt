@@ -2,12 +2,10 @@
 use Rattle.std.specs.Prelude.{
   ◌≡◌,
   ◌⊎◌,
-  ◌<◌,
   ℕ,
   Bool,
   true,
   Option,
-  is_some,
   ◌≤◌,
   nat_eq,
   List,
@@ -15,18 +13,14 @@ use Rattle.std.specs.Prelude.{
   ◌∷◌,
   ◌++◌,
   length,
-  map,
   take,
   get_or,
 }
-use Rattle.std.specs.List.{IsDistinct, list_any}
-use Rattle.std.specs.Set.{is_member}
 use Rattle.raft_safety.specs.Log.{Entry}
-use Rattle.raft_safety.specs.Trace.{AreExact, Tests, same_entry}
-use Rattle.raft_safety.specs.Inner.CheckerState.{common_len, knows}
-use Rattle.raft_safety.specs.Inner.Kept.{AreBounded, Parts, commits_in, leaders_in}
-use Rattle.raft_safety.specs.Inner.Known.{elected_in}
-use Rattle.raft_safety.specs.Inner.Logs.{AllLogs, AreDistinct, AreLogs, IsExact, config_at, log_at}
+use Rattle.raft_safety.specs.Trace.{Tests, same_entry}
+use Rattle.raft_safety.specs.Inner.CheckerState.{common_len}
+use Rattle.raft_safety.specs.Inner.Kept.{Parts}
+use Rattle.raft_safety.specs.Inner.Logs.{AllLogs, AreDistinct, IsExact, log_at}
 use Rattle.raft_safety.specs.declared.checker.counting.ConfigsCount.{ConfigsCount}
 use Rattle.raft_safety.specs.declared.checker.counting.ConfigsCount.TheVariants.{WhenAppended, WhenApplied}
 use Rattle.raft_safety.specs.declared.checker.known.Commit.{Commit}
@@ -71,35 +65,3 @@ module _ {T ID D : Type 0} (k : Tests T ID D (Option D)) (p : Parts T ID D) wher
 
   abbrev pub IsNotedBy : ℕ → ℕ → ℕ → List Commit → Type 0
   IsNotedBy leader len counted_at new = IsNotedWhen k.counting leader len counted_at new
-
-  -- a leader of this leader's term or of an earlier one has committed the last config of its first
-  -- entries already
-  pub record HasCommitted (leader len : ℕ) : Type 0 where
-    pub log : ℕ
-    pub is : (l : Leader T ID) → l ≡ get_or p.leaders leader l
-        → log_at p.logs log ≡ take len (log_at p.logs l.log)
-    pub earlier : (l : Leader T ID) → l ≡ get_or p.leaders leader l → log ≤ l.log
-    pub known : IsExact (same_entry k) → AreDistinct p.logs → AreBounded p.committed p.leaders
-        → (l : Leader T ID) → l ≡ get_or p.leaders leader l → list_any (knows k.rank (same_entry k) (k.rank l.term)
-        (log_at p.logs (config_at p.logs log))) (leaders_in p) ≡ true
-
-  abbrev pub IsStaleWhen : ConfigsCount → ℕ → ℕ → Type 0
-  IsStaleWhen WhenAppended leader len = Unit {0}
-  IsStaleWhen WhenApplied leader len = HasCommitted leader len
-
-  abbrev pub IsStale : ℕ → ℕ → Type 0
-  IsStale leader len = IsStaleWhen k.counting leader len
-
-  -- a leader is as it was, and it is noted whether those who have voted for it elect it
-  pub record IsElectedAgain (old new : Leader T ID) : Type 0 where
-    pub rest : new ≡ record old { elected = new.elected }
-    pub elected : IsExact (same_entry k) → AreLogs (λ d. is_some (k.config_of d)) p.logs
-        → old.log < length p.logs.logs → IsDistinct k.same_id old.voters.items
-        → new.elected ≡ elected_in k k.counting (commits_in p) old.term
-        (take old.start (log_at p.logs old.log)) (is_member k.same_id old.voters.items)
-
-  -- and so for each leader
-  pub record AreElected (new : List (Leader T ID)) : Type 0 where
-    pub same_len : length new ≡ length p.leaders
-    pub each : (i : ℕ) (old l : Leader T ID) → i < length p.leaders → old ≡ get_or p.leaders i old
-        → l ≡ get_or new i l → IsElectedAgain old l

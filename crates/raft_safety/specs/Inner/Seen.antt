@@ -78,6 +78,12 @@ module _ {T ID D M : Type 0} (k : Tests T ID D M) where
       (λ a. (hold_no_config k (take a log) || is_known_by k (is_earlier k t) (take a log) es)
       && (hold_at_most_one k (drop a log) && is_quorum_of_log k (take a log) voters))
 
+-- whether a candidate is elected, and what is noted of it when it has got a vote. If configs count once
+-- they are applied, a later commit can elect it, so only a yes says something
+abbrev pub IsElectionOf : ConfigsCount → Bool → Bool → Type 0
+IsElectionOf WhenAppended elected noted = elected ≡ noted
+IsElectionOf WhenApplied elected noted = noted ≡ true → elected ≡ true
+
 module _ {T ID D : Type 0} (k : Tests T ID D (Option D)) where
   -- what is kept of a server is what its events say
   pub record SeesServer (evs : List (Event T ID D)) (s : ServerState T ID D) : Type 0 where
@@ -106,7 +112,7 @@ module _ {T ID D : Type 0} (k : Tests T ID D (Option D)) where
     pub voted : (v : ID) → has_voted k t c (events_in k es v) ≡ is_member k.same_id l.voters v
     pub distinct : IsDistinct k.same_id l.voters
     pub own_vote : is_member k.same_id l.voters c ≡ true
-    pub elected : is_elected_when k es t c ≡ l.elected
+    pub elected : IsElectionOf k.counting (is_elected_when k es t c) l.elected
     pub acked : (v : ID) (n : ℕ) → has_acked k t c n (events_in k es v) ≡ has_acked_to k.same_id l.acked v n
     pub committed : committed_in k es t c ≡ l.committed
     pub within : MatchOption l.committed (Unit {0}) (λ n. n ≤ length l.log)

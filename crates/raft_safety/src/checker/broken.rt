@@ -75,9 +75,6 @@ pub fn append_rule<T: Term, N: Copy + Eq, D: Copy + Eq>(
         (leader_in logs.now leader.now) rank keep entries.now }
     ensures fits { IsNone result → keep ≤ length (log_at logs.now server.now.log) }
 {
-    if !leader.elected {
-        return Some(Rule::NotElected);
-    }
     if rank < server.term() {
         return Some(Rule::PassedTerm);
     }
@@ -133,9 +130,6 @@ pub fn ack_rule<T: Term, N: Copy + Eq, D: Copy + Eq>(
         ≡ ack_rule (same_entry_by T.eq D.eq) (server_in logs.now server.now)
         (leader_in logs.now leader.now) rank len }
 {
-    if !leader.elected {
-        return Some(Rule::NotElected);
-    }
     if server.term() < rank {
         return Some(Rule::TermNotReached);
     }
@@ -163,9 +157,6 @@ pub fn apply_rule<T: Term, N: Copy + Eq, D: Copy + Eq>(
         ≡ apply_rule (same_entry_by T.eq D.eq) (server_in logs.now server.now)
         (leader_in logs.now leader.now) len }
 {
-    if !leader.elected {
-        return Some(Rule::NotElected);
-    }
     if logs.len(leader.log) < len {
         return Some(Rule::NotWritten);
     }
@@ -205,9 +196,6 @@ pub fn write_rule<T: Term, N: Copy + Eq, D: Copy + Eq, C: Configs<N, D>>(
         → result ≡ write_rule counting T.eq (C.holds_config configs.now) (C.intersects configs.now)
         (leader_in logs.now leader.now) term entry }
 {
-    if !leader.elected {
-        return Some(Rule::NotElected);
-    }
     if entry.term != term {
         return Some(Rule::OtherTerm);
     }
@@ -263,9 +251,6 @@ pub fn commit_rule<T: Term, N: Copy + Eq, D: Copy + Eq>(
         (at_most_one_in holds (drop counted_at (take len
         (log_at logs.now leader.now.log)))) None }
 {
-    if !leader.elected {
-        return Some(Rule::NotElected);
-    }
     if len <= leader.start {
         return Some(Rule::EarlierTerm);
     }

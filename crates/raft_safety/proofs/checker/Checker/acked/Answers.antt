@@ -18,7 +18,7 @@ use Rattle.raft_safety.proofs.checker.Checker.acked.Goals as goal
 pub returns-in-None-clause-answer : goal.returns-in-None-clause-answer
 returns-in-None-clause-answer g c =
     λ exact es keeps. ack_unled _ exact es c.args.server c.args.term c.args.leader c.args.len (kept_by c.args.self.now)
-    (sym (c.in-None.ensures.place exact.same_term keeps.placed)) keeps
+    (c.in-None.ensures.place exact es keeps) keeps
 
 pub returns-in_err-i-clause-answer : goal.returns-in_err-i-clause-answer
 returns-in_err-i-clause-answer g c =
@@ -30,7 +30,7 @@ returns-in-Some-ack_rule-clause-answer g c =
     λ exact es keeps. ack_refused _ exact es c.args.server c.args.term c.args.leader c.args.len
     (with_servers (kept_by c.args.self.now) c.server_at.new.servers.items) c.in_ok-i.i c.in-Some.j c.index.result.now
     c.index-2.result.now c.in-Some-ack_rule.rule
-    c.in_ok-i.ensures.at.0 c.index.ensures (sym (c.in-Some.ensures.place exact.same_term keeps.placed)) c.index-2.ensures
+    c.in_ok-i.ensures.at.0 c.index.ensures (c.in-Some.ensures.place exact es keeps) c.index-2.ensures
     (keeps_at _ exact es c.args.server (kept_by c.args.self.now) c.server_at.new.servers.items c.in_ok-i.i c.in_ok-i.ensures.at keeps)
     (rw c.rank-rank.ensures at (sym (c.in-Some-ack_rule.ensures (exact_entries _ exact) keeps.are_logs.distinct)))
 
@@ -41,7 +41,7 @@ returns-in_err-ack-clause-answer g c =
       tt,
       same_leader_again _ exact es (with_servers (kept_by c.args.self.now) c.server_at.new.servers.items) c.args.term
           c.args.leader c.in-Some.j
-          c.index_mut.result.now c.ack.new.self (sym (c.in-Some.ensures.place exact.same_term keeps.placed)) c.index_mut.ensures.value
+          c.index_mut.result.now c.ack.new.self (c.in-Some.ensures.place exact es keeps).place c.index_mut.ensures.value
           (keeps_at _ exact es c.args.server (kept_by c.args.self.now) c.server_at.new.servers.items c.in_ok-i.i c.in_ok-i.ensures.at keeps)
           c.in_err-ack.ensures.err_acked
           (acked_leader _ exact (kept_by c.args.self.now) c.index_mut.result.now c.ack.new.self c.in_err-ack.ensures.rest)
@@ -53,7 +53,7 @@ returns-clause-answer g c =
     λ exact es keeps. ack_done _ exact es c.args.server c.args.term c.args.leader c.args.len
     (with_servers (kept_by c.args.self.now) c.server_at.new.servers.items) c.in_ok-i.i c.in-Some.j
     c.index.result.now c.index_mut-2.result.now c.ack-2.new.self c.index-2.result.now c.index_mut.result.now c.ack.new.self
-    c.in_ok-i.ensures.at.0 c.index.ensures c.index_mut-2.ensures.value (sym (c.in-Some.ensures.place exact.same_term keeps.placed))
+    c.in_ok-i.ensures.at.0 c.index.ensures c.index_mut-2.ensures.value (c.in-Some.ensures.place exact es keeps)
     c.index-2.ensures c.index_mut.ensures.value
     (keeps_at _ exact es c.args.server (kept_by c.args.self.now) c.server_at.new.servers.items c.in_ok-i.i c.in_ok-i.ensures.at keeps)
     (rw c.rank-rank.ensures at (sym (c.in-None-ack_rule.ensures (exact_entries _ exact) keeps.are_logs.distinct)))

@@ -16,7 +16,7 @@ use Rattle.raft_safety.proofs.checker.Checker.appended.Goals as goal
 pub returns-in-None-clause-answer : goal.returns-in-None-clause-answer
 returns-in-None-clause-answer g c =
     λ exact es keeps. append_unled _ exact es c.args.server c.args.term c.args.leader c.args.keep c.args.entries.now
-    (kept_by c.args.self.now) (sym (c.in-None.ensures.place exact.same_term keeps.placed)) keeps
+    (kept_by c.args.self.now) (c.in-None.ensures.place exact es keeps) keeps
 
 pub returns-in_err-i-clause-answer : goal.returns-in_err-i-clause-answer
 returns-in_err-i-clause-answer g c =
@@ -28,7 +28,7 @@ returns-in-Some-append_rule-clause-answer g c =
     λ exact es keeps. append_refused _ exact es c.args.server c.args.term c.args.leader c.args.keep c.args.entries.now
     (with_servers (kept_by c.args.self.now) c.server_at.new.servers.items) c.in_ok-i.i c.in-Some.j c.index.result.now
     c.index-2.result.now c.in-Some-append_rule.rule
-    c.in_ok-i.ensures.at.0 c.index.ensures (sym (c.in-Some.ensures.place exact.same_term keeps.placed)) c.index-2.ensures
+    c.in_ok-i.ensures.at.0 c.index.ensures (c.in-Some.ensures.place exact es keeps) c.index-2.ensures
     (keeps_at _ exact es c.args.server (kept_by c.args.self.now) c.server_at.new.servers.items c.in_ok-i.i c.in_ok-i.ensures.at keeps)
     (rw c.rank-rank.ensures at (sym (c.in-Some-append_rule.ensures.rule (exact_entries _ exact) keeps.are_logs.distinct)))
 
@@ -48,7 +48,7 @@ returns-clause-answer g c =
     λ exact es keeps. append_done _ exact es c.args.server c.args.term c.args.leader c.args.keep (c.args.keep + c.common_with.result)
     c.args.entries.now (with_servers (kept_by c.args.self.now) c.server_at.new.servers.items) c.in_ok-i.i c.in-Some.j
     c.index.result.now c.index_mut-follower.result.now c.append.new.self c.index-2.result.now c.index-3.result.now
-    c.in_ok-i.ensures.at.0 c.index.ensures c.index_mut-follower.ensures.value (sym (c.in-Some.ensures.place exact.same_term keeps.placed))
+    c.in_ok-i.ensures.at.0 c.index.ensures c.index_mut-follower.ensures.value (c.in-Some.ensures.place exact es keeps)
     c.index-2.ensures c.index-3.ensures
     (keeps_at _ exact es c.args.server (kept_by c.args.self.now) c.server_at.new.servers.items c.in_ok-i.i c.in_ok-i.ensures.at keeps)
     (rw c.rank-rank.ensures at (sym (c.in-None-append_rule.ensures.rule (exact_entries _ exact) keeps.are_logs.distinct)))

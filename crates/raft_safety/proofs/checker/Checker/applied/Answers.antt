@@ -16,7 +16,7 @@ use Rattle.raft_safety.proofs.checker.Checker.applied.Goals as goal
 pub returns-in-None-clause-answer : goal.returns-in-None-clause-answer
 returns-in-None-clause-answer g c =
     λ exact es keeps. apply_unled _ exact es c.args.server c.args.term c.args.leader c.args.len (kept_by c.args.self.now)
-    (sym (c.in-None.ensures.place exact.same_term keeps.placed)) keeps
+    (c.in-None.ensures.place exact es keeps) keeps
 
 pub returns-in_err-i-clause-answer : goal.returns-in_err-i-clause-answer
 returns-in_err-i-clause-answer g c =
@@ -28,7 +28,7 @@ returns-in-Some-apply_rule-clause-answer g c =
     λ exact es keeps. apply_refused _ exact es c.args.server c.args.term c.args.leader c.args.len
     (with_servers (kept_by c.args.self.now) c.server_at.new.servers.items) c.in_ok-i.i c.in-Some.j c.index.result.now
     c.index-2.result.now c.in-Some-apply_rule.rule
-    c.in_ok-i.ensures.at.0 c.index.ensures (sym (c.in-Some.ensures.place exact.same_term keeps.placed)) c.index-2.ensures
+    c.in_ok-i.ensures.at.0 c.index.ensures (c.in-Some.ensures.place exact es keeps) c.index-2.ensures
     (keeps_at _ exact es c.args.server (kept_by c.args.self.now) c.server_at.new.servers.items c.in_ok-i.i c.in_ok-i.ensures.at keeps)
     (sym (c.in-Some-apply_rule.ensures (exact_entries _ exact) keeps.are_logs.distinct))
 
@@ -37,7 +37,7 @@ returns-then-not-any_knows-clause-answer g c =
     λ exact es keeps. apply_uncommitted _ exact es c.args.server c.args.term c.args.leader c.args.len c.first-prefix.result
     (with_servers (kept_by c.args.self.now) c.server_at.new.servers.items) c.in_ok-i.i c.in-Some.j c.index.result.now
     c.index-2.result.now c.index-3.result.now c.any_knows.result
-    c.in_ok-i.ensures.at.0 c.index.ensures (sym (c.in-Some.ensures.place exact.same_term keeps.placed)) c.index-2.ensures c.index-3.ensures
+    c.in_ok-i.ensures.at.0 c.index.ensures (c.in-Some.ensures.place exact es keeps) c.index-2.ensures c.index-3.ensures
     (keeps_at _ exact es c.args.server (kept_by c.args.self.now) c.server_at.new.servers.items c.in_ok-i.i c.in_ok-i.ensures.at keeps)
     (sym (c.in-None-apply_rule.ensures (exact_entries _ exact) keeps.are_logs.distinct)) c.first-prefix.ensures.first
     (rw c.rank.ensures at (c.any_knows.ensures keeps.bounded (exact_entries _ exact) keeps.are_logs.distinct))
@@ -48,7 +48,7 @@ returns-clause-answer g c =
     λ exact es keeps. apply_done _ exact es c.args.server c.args.term c.args.leader c.args.len c.first-prefix.result
     (with_servers (kept_by c.args.self.now) c.server_at.new.servers.items) c.in_ok-i.i c.in-Some.j c.index.result.now
     c.index-2.result.now c.index-3.result.now c.any_knows.result
-    c.in_ok-i.ensures.at.0 c.index.ensures (sym (c.in-Some.ensures.place exact.same_term keeps.placed)) c.index-2.ensures c.index-3.ensures
+    c.in_ok-i.ensures.at.0 c.index.ensures (c.in-Some.ensures.place exact es keeps) c.index-2.ensures c.index-3.ensures
     (keeps_at _ exact es c.args.server (kept_by c.args.self.now) c.server_at.new.servers.items c.in_ok-i.i c.in_ok-i.ensures.at keeps)
     (sym (c.in-None-apply_rule.ensures (exact_entries _ exact) keeps.are_logs.distinct)) c.first-prefix.ensures.first
     (rw c.rank.ensures at (c.any_knows.ensures keeps.bounded (exact_entries _ exact) keeps.are_logs.distinct))

@@ -15,13 +15,13 @@ use Rattle.raft_safety.proofs.checker.Checker.committed.Goals as goal
 pub returns-in-None-clause-answer : goal.returns-in-None-clause-answer
 returns-in-None-clause-answer g c =
     λ exact es keeps. commit_unled _ exact es c.args.term c.args.leader c.args.len c.args.counted_at (kept_by c.args.self.now)
-    (sym (c.in-None.ensures.place exact.same_term keeps.placed)) keeps
+    (c.in-None.ensures.place exact es keeps) keeps
 
 pub returns-in-Some-commit_rule-clause-answer : goal.returns-in-Some-commit_rule-clause-answer
 returns-in-Some-commit_rule-clause-answer g c =
     λ exact es keeps. commit_refused _ exact es c.args.term c.args.leader c.args.len c.args.counted_at (kept_by c.args.self.now)
     c.in-Some.j c.index.result.now c.in-Some-commit_rule.rule
-    (sym (c.in-Some.ensures.place exact.same_term keeps.placed)) c.index.ensures keeps
+    (c.in-Some.ensures.place exact es keeps) c.index.ensures keeps
     (sym c.in-Some-commit_rule.ensures)
 
 pub returns-then-not-is_quorum-clause-answer : goal.returns-then-not-is_quorum-clause-answer
@@ -30,12 +30,12 @@ returns-then-not-is_quorum-clause-answer g c =
     (kept_by c.args.self.now) c.in-Some.j
     c.index.result.now c.index-2.result.now c.index-3.result.now c.in_ok-servers.servers.items
     c.config_content-config.result c.is_quorum.result
-    (sym (c.in-Some.ensures.place exact.same_term keeps.placed)) c.index.ensures c.index-2.ensures c.index-3.ensures
+    (c.in-Some.ensures.place exact es keeps) c.index.ensures c.index-2.ensures c.index-3.ensures
     keeps (sym c.in-None-commit_rule.ensures) c.in_ok-servers.ensures.servers
     (c.config_content-config.ensures (g.C.Configs.holds_config c.args.self.now.configs)
     (logs_by (g.C.Configs.holds_config c.args.self.now.configs) c.args.self.now.logs keeps.are_logs)
     (let own = keeps.have_logs.of_leaders c.in-Some.j c.index-3.result.now
-    (found_within _ _ _ (sym (c.in-Some.ensures.place exact.same_term keeps.placed)))
+    (found_within _ _ _ (c.in-Some.ensures.place exact es keeps))
     c.index-3.ensures in
     omega (arith, own, c.first.ensures.earlier))
     ∙ ap (λ x. effective_config (config_in (g.C.Configs.holds_config c.args.self.now.configs)) None x) c.first.ensures.first)
@@ -46,12 +46,12 @@ returns-clause-answer g c =
     λ exact es keeps. commit_done _ exact es c.args.term c.args.leader c.args.len c.args.counted_at (kept_by c.args.self.now) c.in-Some.j
     c.index.result.now c.index-2.result.now c.index-3.result.now c.index_mut.result.now c.commit.new.self c.in_ok-servers.servers.items
     c.config_content-config.result c.is_quorum.result
-    (sym (c.in-Some.ensures.place exact.same_term keeps.placed)) c.index.ensures c.index-2.ensures c.index-3.ensures
+    (c.in-Some.ensures.place exact es keeps) c.index.ensures c.index-2.ensures c.index-3.ensures
     c.index_mut.ensures.value keeps (sym c.in-None-commit_rule.ensures) c.in_ok-servers.ensures.servers
     (c.config_content-config.ensures (g.C.Configs.holds_config c.args.self.now.configs)
     (logs_by (g.C.Configs.holds_config c.args.self.now.configs) c.args.self.now.logs keeps.are_logs)
     (let own = keeps.have_logs.of_leaders c.in-Some.j c.index-3.result.now
-    (found_within _ _ _ (sym (c.in-Some.ensures.place exact.same_term keeps.placed)))
+    (found_within _ _ _ (c.in-Some.ensures.place exact es keeps))
     c.index-3.ensures in
     omega (arith, own, c.first.ensures.earlier))
     ∙ ap (λ x. effective_config (config_in (g.C.Configs.holds_config c.args.self.now.configs)) None x) c.first.ensures.first)

@@ -16,16 +16,16 @@ use Rattle.raft_safety.proofs.checker.Checker.wrote.Goals as goal
 pub returns-in-None-clause-answer : goal.returns-in-None-clause-answer
 returns-in-None-clause-answer g c =
     λ exact es keeps. write_unled _ exact es c.args.term c.args.leader c.args.entry (kept_by c.args.self.now)
-    (sym (c.in-None.ensures.place exact.same_term keeps.placed)) keeps
+    (c.in-None.ensures.place exact es keeps) keeps
 
 pub returns-in-Some-write_rule-clause-answer : goal.returns-in-Some-write_rule-clause-answer
 returns-in-Some-write_rule-clause-answer g c =
     λ exact es keeps. write_refused _ exact es c.args.term c.args.leader c.args.entry (kept_by c.args.self.now)
     c.in-Some.j c.index.result.now c.in-Some-write_rule.rule (g.C.Configs.holds_config c.args.self.now.configs) (λ d. refl) refl
-    (sym (c.in-Some.ensures.place exact.same_term keeps.placed)) c.index.ensures keeps
+    (c.in-Some.ensures.place exact es keeps) c.index.ensures keeps
     (sym (c.in-Some-write_rule.ensures (logs_by (g.C.Configs.holds_config c.args.self.now.configs) c.args.self.now.logs keeps.are_logs)
     (keeps.have_logs.of_leaders c.in-Some.j c.index.result.now
-    (found_within _ _ _ (sym (c.in-Some.ensures.place exact.same_term keeps.placed))) c.index.ensures)))
+    (found_within _ _ _ (c.in-Some.ensures.place exact es keeps)) c.index.ensures)))
 
 pub returns-in_err-log-clause-answer : goal.returns-in_err-log-clause-answer
 returns-in_err-log-clause-answer g c =
@@ -37,14 +37,14 @@ returns-clause-answer g c =
     λ exact es keeps. write_done _ exact es c.args.term c.args.leader c.args.entry (kept_by c.args.self.now)
     c.in-Some.j c.child.new.self c.index.result.now c.index-2.result.now c.index_mut.result.now c.write.new.self
     (g.C.Configs.holds_config c.args.self.now.configs) (λ d. refl) refl
-    (sym (c.in-Some.ensures.place exact.same_term keeps.placed)) c.index.ensures
+    (c.in-Some.ensures.place exact es keeps) c.index.ensures
     c.index-2.ensures c.index_mut.ensures.value keeps
     (sym (c.in-None-write_rule.ensures (logs_by (g.C.Configs.holds_config c.args.self.now.configs) c.args.self.now.logs keeps.are_logs)
     (keeps.have_logs.of_leaders c.in-Some.j c.index.result.now
-    (found_within _ _ _ (sym (c.in-Some.ensures.place exact.same_term keeps.placed))) c.index.ensures)))
+    (found_within _ _ _ (c.in-Some.ensures.place exact es keeps)) c.index.ensures)))
     c.in_ok-log.log (c.in_ok-log.ensures.child _ (exact_entries _ exact) keeps.are_logs
     (keeps.have_logs.of_leaders c.in-Some.j c.index-2.result.now
-    (found_within _ _ _ (sym (c.in-Some.ensures.place exact.same_term keeps.placed))) c.index-2.ensures)
+    (found_within _ _ _ (c.in-Some.ensures.place exact es keeps)) c.index-2.ensures)
     (c.holds_config-is_config.ensures
     ∙ ap (λ (e : Entry g.row.T.Denot g.row.D.Denot). g.C.Configs.holds_config c.args.self.now.configs e.content) c.entry.view_is
     ∙ sym (some_config (g.C.Configs.holds_config c.args.self.now.configs) c.args.entry.content)))

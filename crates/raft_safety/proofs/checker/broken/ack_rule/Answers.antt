@@ -6,18 +6,14 @@ use Rattle.raft_safety.specs.Inner.Logs.{log_at}
 use Rattle.raft_safety.proofs.lemmas.StateLemmas.{enough, too_few}
 use Rattle.raft_safety.proofs.checker.broken.ack_rule.Goals as goal
 
-pub returns-then-not-leader : goal.returns-then-not-leader
-returns-then-not-leader g c = λ exact distinct. rw c.if-not-leader.true refl
-
 pub returns-then-term-rank : goal.returns-then-term-rank
 returns-then-term-rank g c =
     λ exact distinct. rw
-    (c.if-not-leader.false, lt-leb c.args.rank c.args.server.now.terms.term (rw c.term.ensures at c.if-term-rank.true)) refl
+    (lt-leb c.args.rank c.args.server.now.terms.term (rw c.term.ensures at c.if-term-rank.true)) refl
 
 pub returns-then-len : goal.returns-then-len
 returns-then-len g c =
     λ exact distinct. rw (
-      c.if-not-leader.false,
       le-leb c.args.rank c.args.server.now.terms.term (rw c.term.ensures at c.if-term-rank.false),
       lt-leb c.args.len (length (log_at c.args.logs.now c.args.leader.now.log)) (omega (arith, c.len.ensures.len)),
     ) refl
@@ -26,7 +22,6 @@ pub returns-then-not-begins_with : goal.returns-then-not-begins_with
 returns-then-not-begins_with g c =
     λ exact distinct. let begins = rw c.first.ensures.first at (c.begins_with.ensures exact distinct) in
     rw (
-      c.if-not-leader.false,
       le-leb c.args.rank c.args.server.now.terms.term (rw c.term.ensures at c.if-term-rank.false),
       le-leb c.args.len (length (log_at c.args.logs.now c.args.leader.now.log)) (omega (arith, c.len.ensures.len)),
       ← begins,
@@ -37,7 +32,6 @@ pub returns-then-kept_since-len : goal.returns-then-kept_since-len
 returns-then-kept_since-len g c =
     λ exact distinct. let begins = rw c.first.ensures.first at (c.begins_with.ensures exact distinct) in
     rw (
-      c.if-not-leader.false,
       le-leb c.args.rank c.args.server.now.terms.term (rw c.term.ensures at c.if-term-rank.false),
       le-leb c.args.len (length (log_at c.args.logs.now c.args.leader.now.log)) (omega (arith, c.len.ensures.len)),
       ← begins,
@@ -51,7 +45,6 @@ pub returns : goal.returns
 returns g c =
     λ exact distinct. let begins = rw c.first.ensures.first at (c.begins_with.ensures exact distinct) in
     rw (
-      c.if-not-leader.false,
       le-leb c.args.rank c.args.server.now.terms.term (rw c.term.ensures at c.if-term-rank.false),
       le-leb c.args.len (length (log_at c.args.logs.now c.args.leader.now.log)) (omega (arith, c.len.ensures.len)),
       ← begins,

@@ -7,18 +7,14 @@ use Rattle.raft_safety.proofs.checker.broken.append_rule.Goals.{
   else-keep-matching-via-else-keep-matching,
 }
 
-pub returns-then-not-leader-clause-rule : goal.returns-then-not-leader-clause-rule
-returns-then-not-leader-clause-rule g c = λ exact distinct. rw c.if-not-leader.true refl
-
 pub returns-then-rank-term-clause-rule : goal.returns-then-rank-term-clause-rule
 returns-then-rank-term-clause-rule g c =
     λ exact distinct. rw
-    (c.if-not-leader.false, lt-leb c.args.server.now.terms.term c.args.rank (rw c.term.ensures at c.if-rank-term.true)) refl
+    (lt-leb c.args.server.now.terms.term c.args.rank (rw c.term.ensures at c.if-rank-term.true)) refl
 
 pub returns-then-len-keep-clause-rule : goal.returns-then-len-keep-clause-rule
 returns-then-len-keep-clause-rule g c =
     λ exact distinct. rw (
-      c.if-not-leader.false,
       le-leb c.args.server.now.terms.term c.args.rank (rw c.term.ensures at c.if-rank-term.false),
       lt-leb c.args.keep (length (log_at c.args.logs.now c.args.server.now.log)) (omega (arith, c.len.ensures.len)),
     ) refl
@@ -28,7 +24,6 @@ returns-then-old-saturating_sub-clause-rule g c =
     λ exact distinct. let matching = c.common_len-matching.ensures.common exact distinct in
     let old = c.common_with-old.ensures.common in
     rw (
-      c.if-not-leader.false,
       le-leb c.args.server.now.terms.term c.args.rank (rw c.term.ensures at c.if-rank-term.false),
       le-leb c.args.keep (length (log_at c.args.logs.now c.args.server.now.log)) (omega (arith, c.len.ensures.len)),
       ← matching,
@@ -42,7 +37,6 @@ returns-then-old-entries-clause-rule g c =
     let old = c.common_with-old.ensures.common in
     let all = eq-eqb c.common_with-old.result (length c.args.entries.now) (omega arith) in
     rw (
-      c.if-not-leader.false,
       le-leb c.args.server.now.terms.term c.args.rank (rw c.term.ensures at c.if-rank-term.false),
       le-leb c.args.keep (length (log_at c.args.logs.now c.args.server.now.log)) (omega (arith, c.len.ensures.len)),
       ← matching,
@@ -59,7 +53,6 @@ returns-then-common_with-entries-clause-rule g c =
     let not_old = ne_eqb c.common_with-old.result (length c.args.entries.now) (λ e. omega (arith, e)) in
     let all = eq-eqb c.common_with.result (length c.args.entries.now) (omega arith) in
     rw (
-      c.if-not-leader.false,
       le-leb c.args.server.now.terms.term c.args.rank (rw c.term.ensures at c.if-rank-term.false),
       le-leb c.args.keep (length (log_at c.args.logs.now c.args.server.now.log)) (omega (arith, c.len.ensures.len)),
       ← matching,
@@ -77,7 +70,6 @@ returns-clause-rule g c =
     let old = c.common_with-old.ensures.common in
     let not_old = ne_eqb c.common_with-old.result (length c.args.entries.now) (λ e. omega (arith, e)) in
     rw (
-      c.if-not-leader.false,
       le-leb c.args.server.now.terms.term c.args.rank (rw c.term.ensures at c.if-rank-term.false),
       le-leb c.args.keep (length (log_at c.args.logs.now c.args.server.now.log)) (omega (arith, c.len.ensures.len)),
       ← matching,

@@ -3,21 +3,15 @@ use Rattle.std.proofs.lemmas.Bool.{le-leb, lt-leb}
 use Rattle.raft_safety.specs.Inner.Logs.{log_at}
 use Rattle.raft_safety.proofs.checker.broken.apply_rule.Goals as goal
 
-pub returns-then-not-leader : goal.returns-then-not-leader
-returns-then-not-leader g c = λ exact distinct. rw c.if-not-leader.true refl
-
 pub returns-then-len : goal.returns-then-len
 returns-then-len g c =
-    λ exact distinct. rw (
-      c.if-not-leader.false,
-      lt-leb c.args.len (length (log_at c.args.logs.now c.args.leader.now.log)) (omega (arith, c.len.ensures.len)),
-    ) refl
+    λ exact distinct. rw
+    (lt-leb c.args.len (length (log_at c.args.logs.now c.args.leader.now.log)) (omega (arith, c.len.ensures.len))) refl
 
 pub returns-then-not-begins_with : goal.returns-then-not-begins_with
 returns-then-not-begins_with g c =
     λ exact distinct. let begins = rw c.first.ensures.first at (c.begins_with.ensures exact distinct) in
     rw (
-      c.if-not-leader.false,
       le-leb c.args.len (length (log_at c.args.logs.now c.args.leader.now.log)) (omega (arith, c.len.ensures.len)),
       ← begins,
       c.if-not-begins_with.true,
@@ -27,7 +21,6 @@ pub returns : goal.returns
 returns g c =
     λ exact distinct. let begins = rw c.first.ensures.first at (c.begins_with.ensures exact distinct) in
     rw (
-      c.if-not-leader.false,
       le-leb c.args.len (length (log_at c.args.logs.now c.args.leader.now.log)) (omega (arith, c.len.ensures.len)),
       ← begins,
       c.if-not-begins_with.false,
