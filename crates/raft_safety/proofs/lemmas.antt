@@ -37,6 +37,8 @@ pub mod MembershipsLemmas
 pub mod MergeLemmas
 pub mod LoopLemmas
 pub mod KnownLemmas
+pub mod ConfigBeforeLemmas
+pub mod KnownElectionLemmas
 pub mod LogTreeLemmas
 pub mod CommonLemmas
 pub mod ChildLemmas

@@ -61,11 +61,11 @@ pub replaced : {X : Type 0} (xs : List X) (n : ℕ) (x y : X) → 0 < n → n �
     → x ≡ get_or xs (n - 1) x
     → (xs ≡ take (n - 1) xs ++ x ∷ []) × (set xs (n - 1) y ≡ take (n - 1) xs ++ y ∷ [])
 replaced {X} xs n x y some len last = (
-    sym (take_all (n - 1 + 1) xs (omega (arith, len))) ∙ take_more xs (n - 1) x in_list
-        ∙ ap (λ (z : X). take (n - 1) xs ++ z ∷ []) (sym last),
-    sym (take_all (n - 1 + 1) (set xs (n - 1) y) (omega (arith, len, length-set xs (n - 1) y)))
-        ∙ take_more_set xs (n - 1) y in_list,
-  )
+  sym (take_all (n - 1 + 1) xs (omega (arith, len))) ∙ take_more xs (n - 1) x in_list
+      ∙ ap (λ (z : X). take (n - 1) xs ++ z ∷ []) (sym last),
+  sym (take_all (n - 1 + 1) (set xs (n - 1) y) (omega (arith, len, length-set xs (n - 1) y)))
+      ∙ take_more_set xs (n - 1) y in_list,
+)
   where
     in_list : n - 1 < length xs
     in_list = omega (arith, some, len)

@@ -44,6 +44,11 @@ abbrev pub is_applied : ConfigsCount → Bool
 is_applied WhenAppended = false
 is_applied WhenApplied = true
 
+-- at most one of the entries holds a config
+abbrev pub at_most_one_in : {T D : Type 0} → (D → Bool) → List (Entry T D) → Bool
+at_most_one_in holds [] = true
+at_most_one_in holds (e ∷ es) = no_config_in holds es || (not (holds e.content) && at_most_one_in holds es)
+
 module _ {T D : Type 0} (same : Entry T D → Entry T D → Bool) where
   -- a commit covers these entries. It is of an earlier term than this one, or of this one and counted at
   -- a shorter length
@@ -55,30 +60,9 @@ module _ {T D : Type 0} (same : Entry T D → Entry T D → Bool) where
   abbrev pub any_covers : ℕ → ℕ → List (Entry T D) → List (CommitState T D) → Bool
   any_covers r a p commits = list_any (covers r a p) commits
 
-  module _ (holds : D → Bool) where
-    -- at most one of the entries holds a config
-    abbrev pub at_most_one_in : List (Entry T D) → Bool
-    at_most_one_in [] = true
-    at_most_one_in (e ∷ es) = no_config_in holds es || (not (holds e.content) && at_most_one_in es)
-
-    -- the last config of these entries is the initial one, or it is known
-    abbrev pub is_config_known : ℕ → ℕ → List (Entry T D) → List (CommitState T D) → Bool
-    is_config_known r a p commits = no_config_in holds p || any_covers r a p commits
-
-    -- the config of the first so many entries of a log is known to its candidate, at most one config
-    -- follows in the log, and these voters are a quorum of it
-    abbrev pub elects_at : {N : Type 0} → (Option D → (N → Bool) → Bool) → ℕ → List (CommitState T D)
-        → List (Entry T D) → (N → Bool) → ℕ → Bool
-    elects_at has_quorum r commits log voters a =
-        is_config_known r 0 (take a log) commits
-        && (at_most_one_in (drop a log)
-        && has_quorum (effective_config (config_in holds) None (take a log)) voters)
-
-    -- a candidate with this log is elected by these voters
-    abbrev pub elects_known : {N : Type 0} → (Option D → (N → Bool) → Bool) → ℕ → List (CommitState T D)
-        → List (Entry T D) → (N → Bool) → Bool
-    elects_known has_quorum r commits log voters =
-        some_upto (length log) (elects_at has_quorum r commits log voters)
+  -- the last config of these entries is the initial one, or it is known
+  abbrev pub is_config_known : (D → Bool) → ℕ → ℕ → List (Entry T D) → List (CommitState T D) → Bool
+  is_config_known holds r a p commits = no_config_in holds p || any_covers r a p commits
 
 module _ {T ID D M : Type 0} (k : Tests T ID D M) where
   -- whether these voters elect a candidate of this term with this log, by the commits that are kept

@@ -248,7 +248,7 @@ pub fn commit_rule<T: Term, N: Copy + Eq, D: Copy + Eq>(
         (leader_in logs.now leader.now) len counted_at (is_config_known (same_entry_by T.eq D.eq)
         holds (T.rank leader.now.term) counted_at
         (take counted_at (log_at logs.now leader.now.log)) (map (commit_in logs.now) commits.now))
-        (at_most_one_in (same_entry_by T.eq D.eq) holds (drop counted_at (take len
+        (at_most_one_in holds (drop counted_at (take len
         (log_at logs.now leader.now.log)))) None }
 {
     if len <= leader.start {
@@ -280,7 +280,7 @@ fn known_commit_rule<T: Term, N: Copy + Eq, D: Copy + Eq>(
         (leader_in logs.now leader.now) len counted_at (is_config_known (same_entry_by T.eq D.eq)
         holds (T.rank leader.now.term) counted_at
         (take counted_at (log_at logs.now leader.now.log)) (map (commit_in logs.now) commits.now))
-        (at_most_one_in (same_entry_by T.eq D.eq) holds (drop counted_at (take len
+        (at_most_one_in holds (drop counted_at (take len
         (log_at logs.now leader.now.log)))) None }
 {
     if len < counted_at {

@@ -94,9 +94,10 @@ fn is_covered<T: Term, D: Copy + Eq>(
 
 /// Returns the log up to the config before the last config of a log, the empty log if there is none.
 fn config_before<T: Term, D: Copy + Eq>(logs: &Logs<T, D>, log: usize) -> usize
-    ensures config { result ≤ config_at logs.now log }
+    ensures config { (holds : D → Bool) → AreLogs holds logs.now → log < length logs.now.logs →
+        result ≤ config_at logs.now log }
     ensures at_most_one { (holds : D → Bool) → AreLogs holds logs.now → log < length logs.now.logs →
-        (n : ℕ) → at_most_one_in (same_entry_by T.eq D.eq) holds (drop n (log_at logs.now log))
+        (n : ℕ) → at_most_one_in holds (drop n (log_at logs.now log))
         ≡ nat_le (length (log_at logs.now result)) n }
     ensures is { (holds : D → Bool) → AreLogs holds logs.now → log < length logs.now.logs →
         log_at logs.now result ≡ take (length (log_at logs.now result)) (log_at logs.now log) }
@@ -108,7 +109,7 @@ fn config_before<T: Term, D: Copy + Eq>(logs: &Logs<T, D>, log: usize) -> usize
 /// Whether at most one config follows the first entries of a log.
 pub fn follows_at_most_one<T: Term, D: Copy + Eq>(logs: &Logs<T, D>, log: usize, len: usize) -> bool
     ensures { (holds : D → Bool) → AreLogs holds logs.now → log < length logs.now.logs → result
-        ≡ at_most_one_in (same_entry_by T.eq D.eq) holds (drop len (log_at logs.now log)) }
+        ≡ at_most_one_in holds (drop len (log_at logs.now log)) }
 {
     logs.len(config_before(logs, log)) <= len
 }
