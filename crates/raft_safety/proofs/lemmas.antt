@@ -29,6 +29,7 @@ pub mod CommitLemmas
 pub mod ContentLemmas
 pub mod LearnLemmas
 pub mod CheckerStepLemmas
+pub mod NotedLemmas
 pub mod CheckerCodeLemmas
 pub mod RankLemmas
 pub mod ScenarioLemmas

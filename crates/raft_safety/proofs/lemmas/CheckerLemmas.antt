@@ -951,7 +951,8 @@ module _ {T ID D : Type 0} (k : Tests T ID D (Option D)) (exact : AreExact k) wh
       go WhenAppended = rw (none.voted c) refl
       go WhenApplied = rw (none.voted c) refl
 
-  config_test : (holds : D → Bool) → ((d : D) → k.config_of d ≡ config_in holds d)
+  -- whether entries hold a config is whether their contents do
+  pub config_test : (holds : D → Bool) → ((d : D) → k.config_of d ≡ config_in holds d)
       → (log : List (Entry T D)) → hold_no_config k log ≡ no_config_in holds log
   config_test holds is [] = refl
   config_test holds is (e ∷ log) =

@@ -54,6 +54,7 @@ use Rattle.std.proofs.lemmas.List.{
   length_push,
   map-append,
   map-set,
+  take_all,
 }
 use Rattle.std.proofs.lemmas.List.Quantifiers.{position-Some}
 use Rattle.raft_safety.specs.Log.{Entry, LackContent}
@@ -145,6 +146,7 @@ use Rattle.raft_safety.proofs.lemmas.CheckedLeaderLemmas.{elected_by, found_some
 use Rattle.raft_safety.proofs.lemmas.PlaceLemmas.{placed_more, placed_set}
 use Rattle.raft_safety.proofs.lemmas.CommitLemmas.{bounded_commit, bounded_more, bounded_same}
 use Rattle.raft_safety.proofs.lemmas.ContentLemmas.{lack_append, lack_second}
+use Rattle.raft_safety.proofs.lemmas.CheckerCodeLemmas.{distinct_one}
 use Rattle.raft_safety.proofs.lemmas.CheckerLemmas.{
   LeaderIs,
   ack_right,
@@ -509,7 +511,7 @@ module _ {T ID D : Type 0} (k : Tests T ID D (Option D)) (exact : AreExact k) wh
       (leader_seen k exact es (leaders_in p) t c j (leader_in p.logs l) keeps.seen.see_leaders (leader_place_in p t c (Some j) at))
 
   -- the leader of a term is one of this term
-  term_of : (p : Parts T ID D) (t : T) (c : ID) (j : ℕ) (l : Leader T ID)
+  pub term_of : (p : Parts T ID D) (t : T) (c : ID) (j : ℕ) (l : Leader T ID)
       → position (is_leader t c) p.leaders ≡ Some j → l ≡ get_or p.leaders j l → l.term ≡ t
   term_of p t c j l at is =
       let facts : (j < length p.leaders) × (is_leader t c (get_or p.leaders j l) ≡ true)
@@ -999,6 +1001,41 @@ module _ {T ID D : Type 0} (k : Tests T ID D (Option D)) (exact : AreExact k) wh
       (subst (λ (x : Leader T ID). grant_rule k.rank k.same_id (server_in p.logs s0) (leader_in p.logs x) id (k.rank t) c ≡ None)
       (same_item p.leaders j l0 l within_j is_l0 is_l) free)
 
+  -- a candidate gets a vote, and it is noted whether it is elected then
+  pub voted_again : (l v new : Leader T ID) (elected : Bool) → v ≡ record l { voters = v.voters }
+      → new ≡ record v { elected = elected } → new ≡ record l { voters = new.voters; elected = new.elected }
+  voted_again l v new elected first rest =
+      rest ∙ (λ q. record {
+        term = ap (λ (x : Leader T ID). x.term) first q;
+        id = ap (λ (x : Leader T ID). x.id) first q;
+        start = ap (λ (x : Leader T ID). x.start) first q;
+        log = ap (λ (x : Leader T ID). x.log) first q;
+        voters = sym (ap (λ (x : Leader T ID). x.voters) rest) q;
+        elected = sym (ap (λ (x : Leader T ID). x.elected) rest) q;
+        acked = ap (λ (x : Leader T ID). x.acked) first q;
+        committed = ap (λ (x : Leader T ID). x.committed) first q;
+      })
+
+  pub elected_again : (es : List (TraceEvent T ID D)) (t : T) (c : ID) (p : Parts T ID D) (j : ℕ)
+      (l v new : Leader T ID) (elected : Bool) → position (is_leader t c) p.leaders ≡ Some j → l ≡ get_or p.leaders j l
+      → Keeps k es p → v ≡ record l { voters = v.voters } → new ≡ record v { elected = elected }
+      → (IsDistinct k.same_id l.voters.items → IsDistinct k.same_id v.voters.items)
+      → (v.log < length p.logs.logs → IsDistinct k.same_id v.voters.items
+      → elected ≡ elected_in k k.counting (commits_in p) v.term (take v.start (log_at p.logs v.log))
+      (is_member k.same_id v.voters.items))
+      → IsDistinct k.same_id l.voters.items
+      → new.elected ≡ elected_in k k.counting (commits_in p) t (take l.start (log_at p.logs l.log))
+      (is_member k.same_id new.voters.items)
+  elected_again es t c p j l v new elected at is keeps first rest distinct counted each =
+      let log : v.log ≡ l.log = ap (λ (x : Leader T ID). x.log) first in
+      let own : l.log < length p.logs.logs = keeps.have_logs.of_leaders j l (within_of (is_leader t c) p.leaders j l at) is in
+      let within : v.log < length p.logs.logs = omega (arith, log, own) in
+      ap (λ (x : Leader T ID). x.elected) rest
+      ∙ counted within (distinct each)
+      ∙ (λ q. elected_in k k.counting (commits_in p) ((ap (λ (x : Leader T ID). x.term) first ∙ term_of p t c j l at is) q)
+      (take (ap (λ (x : Leader T ID). x.start) first q) (log_at p.logs (log q)))
+      (is_member k.same_id (sym (ap (λ (x : Leader T ID). x.voters.items) rest) q)))
+
   pub grant_done : (es : List (TraceEvent T ID D)) (id : ID) (t : T) (c : ID)
       (p : Parts T ID D) (i j len : ℕ) (s0 s m new : Server ID) (l0 l lnew : Leader T ID)
       → position (is_server id) p.servers ≡ Some i
@@ -1108,6 +1145,22 @@ module _ {T ID D : Type 0} (k : Tests T ID D (Option D)) (exact : AreExact k) wh
           let at_s : SeesServer k (events_in k es c) (server_in p.logs s) = sees_server_at es p c i s at is keeps in
           let below : k.rank t ≤ s.terms.term = at_s.votes t c (at_l.voted c ∙ at_l.own_vote) in
           absurd (omega (arith, below, above))
+
+  -- a candidate votes for itself, and it is noted whether it is elected then
+  pub elected_first : (p : Parts T ID D) (t : T) (c : ID) (s : Server ID) (v new : Leader T ID) (elected : Bool)
+      → s.log < length p.logs.logs → v.term ≡ t → v.start ≡ length (log_at p.logs s.log) → v.log ≡ s.log
+      → v.voters.items ≡ c ∷ [] → new ≡ record v { elected = elected }
+      → (v.log < length p.logs.logs → IsDistinct k.same_id v.voters.items
+      → elected ≡ elected_in k k.counting (commits_in p) v.term (take v.start (log_at p.logs v.log))
+      (is_member k.same_id v.voters.items))
+      → new.elected ≡ elected_in k k.counting (commits_in p) t (log_at p.logs s.log) (is_member k.same_id (c ∷ []))
+  elected_first p t c s v new elected within term start log voters rest counted =
+      ap (λ (x : Leader T ID). x.elected) rest
+      ∙ counted (omega (arith, log, within)) (rw voters (distinct_one k.same_id c))
+      ∙ (λ q. elected_in k k.counting (commits_in p) (term q) (take (start q) (log_at p.logs (log q)))
+      (is_member k.same_id (voters q)))
+      ∙ ap (λ x. elected_in k k.counting (commits_in p) t x (is_member k.same_id (c ∷ [])))
+      (take_all (length (log_at p.logs s.log)) (log_at p.logs s.log) (omega arith))
 
   pub campaign_done : (es : List (TraceEvent T ID D)) (t : T) (c : ID) (p : Parts T ID D) (i len : ℕ)
       (s0 s m new : Server ID) (lnew : Leader T ID)

@@ -1,13 +1,13 @@
-use Rattle.std.proofs.Common.{◌∙◌, None, ap, arith, length, sym}
+use Rattle.std.proofs.Common.{◌∙◌, ap, length, sym}
 use Rattle.std.specs.Set.{is_member}
 use Rattle.std.proofs.lemmas.Result.{err_from_is_err_and}
-use Rattle.raft_safety.specs.Configs.{effective_config}
 use Rattle.raft_safety.specs.Checker.{kept_by}
-use Rattle.raft_safety.specs.Inner.CheckerState.{config_in}
 use Rattle.raft_safety.specs.Inner.Logs.{log_at}
 use Rattle.raft_safety.specs.declared.checker.leader.Leader.{Leader}
 use Rattle.raft_safety.specs.declared.checker.server.Server.{Server}
 use Rattle.raft_safety.proofs.lemmas.CheckerStepLemmas.{
+  elected_again,
+  exact_entries,
   grant_done,
   grant_refused,
   grant_unled,
@@ -16,10 +16,11 @@ use Rattle.raft_safety.proofs.lemmas.CheckerStepLemmas.{
   logs_by,
   same_leader_again,
   same_server,
+  voted_again,
   with_server,
   with_servers,
 }
-use Rattle.raft_safety.proofs.lemmas.LoopLemmas.{found_within, within_len}
+use Rattle.raft_safety.proofs.lemmas.LoopLemmas.{within_len}
 use Rattle.raft_safety.proofs.checker.Checker.granted.Goals as goal
 
 pub returns-in-None-clause-answer : goal.returns-in-None-clause-answer
@@ -110,8 +111,15 @@ returns-clause-answer g c =
     (λ v. ap (λ (l : Leader g.row.T.Denot g.row.N.Denot). is_member g.N.PartialEq.eq l.voters.items v) c.elect.ensures
     ∙ c.in_ok-vote.ensures.voters v)
     (λ d. rw (ap (λ (l : Leader g.row.T.Denot g.row.N.Denot). l.voters.items) c.elect.ensures) (c.in_ok-vote.ensures.distinct d))
-    ?
-    ?
+    (elected_again _ exact es c.args.term c.args.candidate (with_servers (kept_by c.args.self.now) c.server_at.new.servers.items)
+    c.in-Some.j c.index_mut-leader.result.now c.vote.new.self c.elect.new.self c.is_elected-elected.result
+    (sym (c.in-Some.ensures.place exact.same_term keeps.placed)) c.index_mut-leader.ensures.value
+    (keeps_at _ exact es c.args.server (kept_by c.args.self.now) c.server_at.new.servers.items c.in_ok-i.i c.in_ok-i.ensures.at keeps)
+    c.in_ok-vote.ensures.rest c.elect.ensures c.in_ok-vote.ensures.distinct
+    (λ within distinct. rw c.deref.ensures.value at (c.is_elected-elected.ensures (exact_entries _ exact)
+    (logs_by (g.C.Configs.holds_config c.args.self.now.configs) c.args.self.now.logs keeps.are_logs) within distinct)))
+    (voted_again _ exact c.index_mut-leader.result.now c.vote.new.self c.elect.new.self c.is_elected-elected.result
+    c.in_ok-vote.ensures.rest c.elect.ensures)
 
 pub index-requires : goal.index-requires
 index-requires g c = within_len _ _ _ c.server_at.new.servers.ok.0 c.in_ok-i.ensures.within
