@@ -15,8 +15,10 @@ use Rattle.std.specs.Prelude.{
   nat_le,
   max,
   if◌then◌else◌,
+  Option,
   Some,
   None,
+  Result,
   List,
   [],
   ◌∷◌,
@@ -30,7 +32,7 @@ use Rattle.std.specs.Prelude.{
 use Rattle.std.specs.List.{IsDistinct, list_any, position, position_or_len}
 use Rattle.std.specs.Set.{is_member}
 use Rattle.std.specs.Cmp.{IsEquivalence}
-use Rattle.std.proofs.Common.{refl, sym, ap, ◌∙◌, arith}
+use Rattle.std.proofs.Common.{refl, sym, ap, ◌∙◌, subst, arith}
 use Rattle.std.proofs.lemmas.Bool.{ltb-false, lt-ltb, le-leb, le-ltb, lt-leb}
 use Rattle.std.proofs.lemmas.List.Sums.{position_or_len_is, fails_before_first}
 use Rattle.std.proofs.lemmas.Bool.Decides.{nat_tests}
@@ -44,8 +46,11 @@ use Rattle.std.proofs.lemmas.List.{
   drop_more,
   take_more,
 }
-use Rattle.raft_safety.specs.Trace.{TraceEvent}
-use Rattle.raft_safety.specs.Checker.{event_of, trace_after, trace_of}
+use Rattle.raft_safety.specs.Trace.{Tests, TraceEvent}
+use Rattle.raft_safety.specs.Checker.{Records, configs_of, counting_of, event_of, trace_after, trace_of}
+use Rattle.raft_safety.specs.declared.checker.Checker.{Checker}
+use Rattle.raft_safety.specs.declared.checker.counting.ConfigsCount.{ConfigsCount}
+use Rattle.raft_safety.specs.declared.checker.violation.Violation.{Violation}
 use Rattle.raft_safety.specs.Inner.CheckerState.{has_acked_to}
 use Rattle.raft_safety.specs.declared.event.Event.{Event as RecordedEvent}
 use Rattle.raft_safety.specs.declared.checker.leader.Acked.{Acked}
@@ -233,3 +238,14 @@ trace_more {T} {ID} {D} events i e h is =
     ap (λ (l : List (RecordedEvent T ID D)). trace_of l) (take_more events i e h)
     ∙ trace_push [] (take i events) (get_or events i e)
     ∙ ap (λ (x : RecordedEvent T ID D). event_of x ∷ trace_of (take i events)) (sym is)
+
+-- ---- a checker that keeps to its configs, and to when they count
+
+pub records_by : {T ID D C : Type 0} (tests : ConfigsCount → C → Tests T ID D (Option D)) (e : TraceEvent T ID D)
+    (old new : Checker T ID D C) (result : Result (Unit {0}) Violation) (counting : ConfigsCount) (configs : C)
+    → counting_of old ≡ counting → configs_of old ≡ configs
+    → Records (tests (counting_of old) (configs_of old)) e old new result
+    → Records (tests counting configs) e old new result
+records_by {T} {ID} {D} {C} tests e old new result counting configs same_counting same_configs h =
+    subst (λ (x : C). Records (tests counting x) e old new result) same_configs
+    (subst (λ (w : ConfigsCount). Records (tests w (configs_of old)) e old new result) same_counting h)

@@ -93,6 +93,7 @@ use Rattle.raft_safety.specs.Inner.Known.{CommitState, SeesKnownBy}
 use Rattle.raft_safety.specs.declared.checker.counting.ConfigsCount.{ConfigsCount}
 use Rattle.raft_safety.specs.declared.checker.counting.ConfigsCount.TheVariants.{WhenAppended, WhenApplied}
 use Rattle.raft_safety.specs.Inner.Seen.{
+  IsElectionOf,
   SeesLeader,
   SeesLeaders,
   SeesNoLeader,
@@ -662,7 +663,7 @@ module _ {T ID D : Type 0} (k : Tests T ID D (Option D)) (config_of : D → Opti
           voted = λ v. voted_same es t c v ∙ x.voted v;
           distinct = x.distinct;
           own_vote = x.own_vote;
-          elected = same_elected es t c h ∙ x.elected;
+          elected = subst (λ (b : Bool). IsElectionOf k.counting b l.elected) (sym (same_elected es t c h)) x.elected;
           acked = λ v n. acked_same es t c n v ∙ x.acked v n;
           committed = same_committed es t c ∙ x.committed;
           within = x.within;

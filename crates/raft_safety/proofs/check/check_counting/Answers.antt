@@ -1,7 +1,7 @@
-use Rattle.std.proofs.Common.{◌≡◌, ◌<◌, ◌∙◌, length, take, inr, arith}
+use Rattle.std.proofs.Common.{◌≡◌, ◌<◌, ◌∙◌, Err, length, take, inr, arith}
 use Rattle.std.proofs.lemmas.List.{take_all}
-use Rattle.raft_safety.specs.Checker.{trace_of}
-use Rattle.raft_safety.proofs.lemmas.CheckerCodeLemmas.{trace_more}
+use Rattle.raft_safety.specs.Checker.{event_of, tests_when, trace_of}
+use Rattle.raft_safety.proofs.lemmas.CheckerCodeLemmas.{records_by, trace_more}
 use Rattle.raft_safety.proofs.lemmas.CountedLemmas.{trace_is_safe}
 use Rattle.raft_safety.proofs.check.check_counting.Goals as goal
 
@@ -25,7 +25,10 @@ returns-in-Err-record-clause-refused g c =
       within,
       c.index-events-i.is,
       (c.loop-i.invariant.seen exact).seen.allowed,
-      ((rw (c.loop-i.invariant.same, c.loop-i.invariant.counting) at c.in-Err-record.ensures.answer) exact
+      (records_by
+          (λ w x. tests_when w (record { eq = g.T.PartialEq.eq; rank = g.T.Term.rank }) g.N.PartialEq g.D.PartialEq g.C.Configs x)
+          (event_of c.index-events-i.result) c.loop-i.checker c.record.new.self (Err c.in-Err-record.violation)
+          c.args.counting c.args.configs c.loop-i.invariant.counting c.loop-i.invariant.same c.in-Err-record.ensures.answer exact
           (trace_of (take c.loop-i.i c.args.events.now)) (c.loop-i.invariant.seen exact)).0,
     )
 
