@@ -4,6 +4,7 @@ use Rattle.std.proofs.Common.{
   ◌≤◌,
   ◌∙◌,
   ℕ,
+  Err,
   List,
   Some,
   length,
@@ -21,6 +22,8 @@ use Rattle.std.proofs.Common.{
 }
 use Rattle.std.proofs.lemmas.Bool.{both_ways}
 use Rattle.std.proofs.lemmas.Option.{slice_get-get_or, slice_get_read}
+use Rattle.raft_safety.specs.Checker.{event_of, tests_when}
+use Rattle.raft_safety.proofs.lemmas.CheckerCodeLemmas.{records_by}
 use Rattle.raft_safety.proofs.lemmas.MergeLemmas.{
   all_ended,
   all_tried,
@@ -57,7 +60,12 @@ loop-i-preserved g c =
             next_read c.args.lists.now c.args.placed.now c.loop-i.placed c.loop-i.i c.index-lists-i.result w.index.result.now
             (omega arith) c.requires c.loop-i.invariant.placed c.index-lists-i.is (omega arith) w.index.ensures in
             let before = c.loop-i.invariant.tried exact es seen in
-            let answer = (rw (c.loop-i.invariant.configs, c.loop-i.invariant.counting, w.in-Err-Rule.field-0-is) at w.in-Err-Rule.ensures.answer) exact es before.0 in (
+            let answer =
+            (rw w.in-Err-Rule.field-0-is at (records_by
+            (λ v x. tests_when v (record { eq = g.T.PartialEq.eq; rank = g.T.Term.rank }) g.N.PartialEq g.D.PartialEq g.C.Configs x)
+            (event_of w.index.result.now) c.loop-i.checker w.record.new.self (Err w.in-Err-Rule.field-0)
+            c.args.checker.now.counting c.args.checker.now.configs c.loop-i.invariant.counting c.loop-i.invariant.configs
+            w.in-Err-Rule.ensures.answer)) exact es before.0 in (
               rw w.checker-is answer.1,
               tried_refused _ _ _ es c.loop-i.i _ w.index.result.now w.in-Err-Rule.rule c.loop-i.refused c.if-placed-i.refused
                   before.1 c.loop-i.invariant.ended next answer.0 (w.refused-is ∙ w.or-refused.ensures),
