@@ -103,7 +103,6 @@ use Rattle.raft_safety.specs.Trace.{
   is_prefix,
   common_prefix,
   unless,
-  proposal_rule,
   log_in,
 }
 use Rattle.raft_safety.specs.Counted.{are_all_allowed, first_broken, is_allowed_when, is_elected_when, tests_by}

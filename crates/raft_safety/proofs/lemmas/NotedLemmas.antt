@@ -42,11 +42,10 @@ use Rattle.raft_safety.specs.Trace.{
   hold_no_config,
   is_known_by,
   is_prefix,
-  leader_log_in,
   same_entry,
   same_leader,
 }
-use Rattle.raft_safety.specs.AppliedTrace.{hold_at_most_one, is_shorter, may_count_acks}
+use Rattle.raft_safety.specs.AppliedTrace.{hold_at_most_one, is_shorter}
 use Rattle.raft_safety.specs.Checker.{Keeps}
 use Rattle.raft_safety.specs.Inner.CheckerState.{common_len, config_in, no_config_in}
 use Rattle.raft_safety.specs.Inner.Kept.{Parts, commits_in, leader_in}
@@ -60,7 +59,7 @@ use Rattle.raft_safety.specs.Inner.Known.{
   is_config_known,
 }
 use Rattle.raft_safety.specs.Inner.Logs.{AreDistinct, IsExact, log_at}
-use Rattle.raft_safety.specs.Inner.Noted.{HasNoted, IsNoted, IsNotedBy, IsNotedWhen}
+use Rattle.raft_safety.specs.Inner.Noted.{IsNoted, IsNotedBy, IsNotedWhen}
 use Rattle.raft_safety.specs.Inner.Seen.{SeesLeader}
 use Rattle.raft_safety.specs.declared.checker.counting.ConfigsCount.{ConfigsCount}
 use Rattle.raft_safety.specs.declared.checker.counting.ConfigsCount.TheVariants.{WhenAppended, WhenApplied}
