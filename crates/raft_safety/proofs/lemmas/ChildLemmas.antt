@@ -25,7 +25,6 @@ use Rattle.std.specs.Prelude.{
   ◌++◌,
   length,
   min,
-  take,
   drop,
 }
 use Rattle.std.specs.Option.{unwrap_or, option_or}

@@ -2,7 +2,6 @@
 use Rattle.std.specs.Prelude.{
   ◌≡◌,
   ◌⊎◌,
-  ◌+◌,
   ◌-◌,
   ◌<◌,
   ◌≤◌,
@@ -27,7 +26,7 @@ use Rattle.std.specs.Prelude.{
 use Rattle.std.specs.Cmp.{first_so, second_so}
 use Rattle.std.proofs.Common.{refl, sym, ap, ◌∙◌, inl, inr, arith}
 use Rattle.std.proofs.lemmas.Bool.{and_from, cases_lt, le-leb, lt-leb}
-use Rattle.std.proofs.lemmas.List.{length-take, length-take-le, take-take}
+use Rattle.std.proofs.lemmas.List.{length-take, take-take}
 use Rattle.raft_safety.specs.Log.{Entry}
 use Rattle.raft_safety.specs.Inner.CheckerState.{no_config_in}
 use Rattle.raft_safety.specs.Inner.Known.{at_most_one_in}

@@ -30,7 +30,6 @@ use Rattle.std.specs.Prelude.{
   drop,
 }
 use Rattle.std.specs.Cmp.{both_ways, first_so, second_so}
-use Rattle.std.specs.List.{list_any}
 use Rattle.std.specs.Option.{unwrap_or}
 use Rattle.std.proofs.Common.{refl, sym, ap, ◌∙◌, inl, inr, arith}
 use Rattle.std.proofs.lemmas.Bool.{and_from, cases_lt, eq-eqb, eqb-true, le-leb, leb-true, lt-leb}
@@ -150,7 +149,8 @@ module _ {T D : Type 0} (holds : D → Bool) where
       → effective_config (config_in holds) init log ≡ init
   effective_none init [] h = refl
   effective_none init (e ∷ log) h =
-      ap (λ m. effective_config (config_in holds) m log) (go (holds e.content) (first_so (not (holds e.content)) (no_config_in holds log) h))
+      ap (λ m. effective_config (config_in holds) m log)
+      (go (holds e.content) (first_so (not (holds e.content)) (no_config_in holds log) h))
       ∙ effective_none init log (second_so (not (holds e.content)) (no_config_in holds log) h)
     where
       go : (b : Bool) → not b ≡ true → unwrap_or (if b then Some (Some e.content) else None) init ≡ init

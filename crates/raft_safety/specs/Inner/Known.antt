@@ -1,45 +1,26 @@
 -- What the checker knows to be committed, if configs count once they are applied.
-use Rattle.std.specs.Prelude.{
-  ◌≡◌,
-  ℕ,
-  Bool,
-  true,
-  false,
-  not,
-  ◌&&◌,
-  ◌||◌,
-  nat_lt,
-  nat_eq,
-  Option,
-  None,
-  List,
-  [],
-  ◌∷◌,
-  length,
-  take,
-  drop,
-}
+use Rattle.std.specs.Prelude.{◌≡◌, ℕ, Bool, true, false, not, ◌&&◌, ◌||◌, nat_lt, nat_eq, Option, List, [], ◌∷◌, length, take, drop}
 use Rattle.std.specs.List.{list_any}
-use Rattle.std.specs.Set.{is_member}
 use Rattle.raft_safety.specs.Log.{Entry}
 use Rattle.raft_safety.specs.AppliedTrace.{hold_at_most_one, is_shorter, some_upto}
-use Rattle.raft_safety.specs.Configs.{effective_config}
 use Rattle.raft_safety.specs.Trace.{Tests, TraceEvent, hold_no_config, is_known_by, is_quorum_of_log, same_entry}
-use Rattle.raft_safety.specs.Inner.CheckerState.{LeaderState, common_len, config_in, no_config_in}
+use Rattle.raft_safety.specs.Inner.CheckerState.{common_len, no_config_in}
 use Rattle.raft_safety.specs.Inner.Logs.{AllLogs, log_at}
 use Rattle.raft_safety.specs.declared.checker.known.Commit.{Commit}
 use Rattle.raft_safety.specs.declared.checker.counting.ConfigsCount.{ConfigsCount}
 use Rattle.raft_safety.specs.declared.checker.counting.ConfigsCount.TheVariants.{WhenAppended, WhenApplied}
 
--- what is kept of a commit, with the committed entries
+-- a commit: the rank of its term, the length at which it was counted, and the committed entries
 pub record CommitState (T D : Type 0) : Type 0 where
   pub rank : ℕ
   pub counted_at : ℕ
   pub entries : List (Entry T D)
 
+-- what is kept of a commit, with the entries of its log
 abbrev pub commit_in : {T D : Type 0} → AllLogs T D → Commit → CommitState T D
 commit_in logs c = record { rank = c.rank; counted_at = c.counted_at; entries = log_at logs c.log }
 
+-- configs count once they are applied
 abbrev pub is_applied : ConfigsCount → Bool
 is_applied WhenAppended = false
 is_applied WhenApplied = true
@@ -50,13 +31,14 @@ at_most_one_in holds [] = true
 at_most_one_in holds (e ∷ es) = no_config_in holds es || (not (holds e.content) && at_most_one_in holds es)
 
 module _ {T D : Type 0} (same : Entry T D → Entry T D → Bool) where
-  -- a commit covers these entries. It is of an earlier term than this one, or of this one and counted at
-  -- a shorter length
+  -- a commit covers these entries, and it is of an earlier term than this one, or of this one and counted
+  -- at a shorter length
   abbrev pub covers : ℕ → ℕ → List (Entry T D) → CommitState T D → Bool
   covers r a p c =
       (nat_lt c.rank r || (nat_eq c.rank r && nat_lt c.counted_at a))
       && nat_eq (common_len same p c.entries) (length p)
 
+  -- one of the commits covers these entries early enough
   abbrev pub any_covers : ℕ → ℕ → List (Entry T D) → List (CommitState T D) → Bool
   any_covers r a p commits = list_any (covers r a p) commits
 

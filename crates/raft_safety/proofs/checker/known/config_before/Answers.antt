@@ -1,5 +1,5 @@
-use Rattle.std.proofs.Common.{◌≡◌, ◌-◌, ◌≤◌, ◌∙◌, ◌<◌, Bool, ap, arith, length, subst, sym, take, ℕ}
-use Rattle.raft_safety.specs.Inner.Logs.{AreLogs, config_at, log_at}
+use Rattle.std.proofs.Common.{◌-◌, ◌∙◌, ◌<◌, Bool, ap, arith, length, subst, sym, take, ℕ}
+use Rattle.raft_safety.specs.Inner.Logs.{AreLogs, log_at}
 use Rattle.raft_safety.proofs.lemmas.ConfigBeforeLemmas.{IsConfigBefore, config_before}
 use Rattle.raft_safety.proofs.checker.known.config_before.Goals as goal
 

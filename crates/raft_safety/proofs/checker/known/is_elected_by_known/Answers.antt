@@ -1,11 +1,11 @@
-use Rattle.std.proofs.Common.{◌≡◌, ◌<◌, ◌∙◌, Bool, List, None, ap, arith, length, map, refl, sym, take}
+use Rattle.std.proofs.Common.{◌<◌, ◌∙◌, List, ap, arith, length, map, refl, sym, take}
 use Rattle.std.specs.Set.{is_member}
 use Rattle.raft_safety.specs.Log.{Entry}
 use Rattle.raft_safety.specs.AppliedTrace.{some_upto}
 use Rattle.raft_safety.specs.Checker.{tests_when}
 use Rattle.raft_safety.specs.Inner.CheckerState.{same_entry_by}
 use Rattle.raft_safety.specs.Inner.Known.{commit_in}
-use Rattle.raft_safety.specs.Inner.Logs.{config_at, log_at}
+use Rattle.raft_safety.specs.Inner.Logs.{log_at}
 use Rattle.raft_safety.specs.declared.checker.counting.ConfigsCount.TheVariants.{WhenApplied}
 use Rattle.raft_safety.proofs.lemmas.ConfigBeforeLemmas.{IsConfigBefore}
 use Rattle.raft_safety.proofs.lemmas.KnownElectionLemmas.{before_elects, elected_test, elects_at, last_elects}

@@ -1,4 +1,4 @@
-use Rattle.std.proofs.Common.{◌≡◌, ◌∙◌, ◌||◌, ap, arith, false, map, sym, true}
+use Rattle.std.proofs.Common.{◌≡◌, ◌∙◌, ◌||◌, ap, map, sym}
 use Rattle.raft_safety.specs.Inner.CheckerState.{same_entry_by}
 use Rattle.raft_safety.specs.Inner.Known.{any_covers, commit_in}
 use Rattle.raft_safety.specs.Inner.Logs.{config_at, log_at}
