@@ -1,287 +1,162 @@
-//! Traces of a cluster whose configs count once they are applied.
+//! The checker of a cluster whose configs count once they are applied.
 
-use crate::recorded::{Recorded, acked, campaigned, committed, granted, wrote};
-use raft_safety::check::{Refused, check_counting};
-use raft_safety::checker::{ConfigsCount, Violation};
-use raft_safety::entry::Entry;
-use raft_safety::event::Event;
-use raft_safety::memberships::Memberships;
-use raft_safety::rule::Rule;
+use crate::recorded::{events_of, is_rule, three};
+use raft_safety::check::check_counting;
+use raft_safety::checker::ConfigsCount;
+use raft_testing::memory::both;
 use std::alloc::{AllocError, Global};
 use std::test::Fail;
 
-/// The entries of a table: 104 holds the config of servers 1 to 4, and 105 that of servers 1 to 5.
-/// Content 204 holds the joint config of servers 1 to 3 and 3 to 5, and 205 the second of these two.
-const FIRST: (u64, u64) = (1, 104);
+/// Server 0 leads in term 1. It commits the config of servers 0 to 3, content 102, by a majority of
+/// the initial one, servers 0 to 2. Then it writes the config of servers 0 to 4, content 103.
+const WRITTEN: &str = "campaigned 0 1; granted 1 1 0; wrote 0 1 1.102; appended 0 1 0 0 1.102; \
+    acked 0 1 0 1; appended 1 1 0 0 1.102; acked 1 1 0 1; committed 0 1 1 0; wrote 0 1 1.103; \
+    appended 0 1 0 1 1.103; acked 0 1 0 2;";
 
-const SECOND: (u64, u64) = (1, 105);
+/// Server 0 commits the config of servers 0 to 4 by a majority of servers 0 to 3, and writes a
+/// command.
+const COMMITTED: &str = "appended 1 1 0 1 1.103; acked 1 1 0 2; appended 3 1 0 0 1.102,1.103; \
+    acked 3 1 0 2; committed 0 1 2 1; wrote 0 1 1.7; appended 0 1 0 2 1.7; acked 0 1 0 3;";
 
-const COMMAND: (u64, u64) = (1, 7);
+/// Servers 0, 3 and 4, a majority of servers 0 to 4, have the command, and it is committed.
+const COMMAND: &str = "appended 3 1 0 2 1.7; acked 3 1 0 3; \
+    appended 4 1 0 0 1.102,1.103,1.7; acked 4 1 0 3; committed 0 1 3 2;";
 
-/// Majorities of servers 1 to 3, and what the entries above hold.
-fn voters(alloc: Global) -> Result<Memberships<u64, u64>, AllocError> {
-    Ok(Memberships {
-        initial: vec![in alloc; vec![in alloc; 1, 2, 3]?]?,
-        held: vec![in alloc;
-            (104, vec![in alloc; vec![in alloc; 1, 2, 3, 4]?]?),
-            (105, vec![in alloc; vec![in alloc; 1, 2, 3, 4, 5]?]?),
-            (
-                204,
-                vec![in alloc; vec![in alloc; 1, 2, 3]?, vec![in alloc; 3, 4, 5]?]?
-            ),
-            (205, vec![in alloc; vec![in alloc; 3, 4, 5]?]?),
-        ]?,
-    })
+/// Servers 0, 3 and 4 have both configs, and the second one is not committed.
+const TAKEN: &str = "appended 3 1 0 0 1.102,1.103; acked 3 1 0 2; appended 4 1 0 0 1.102,1.103; \
+    acked 4 1 0 2;";
+
+/// In term 2 server 0 has a vote of server 3, and server 1 is elected by the initial config. In term
+/// 3 server 3 is elected by the config of servers 0 to 3, and commits that of servers 0 to 4.
+const TERM_3: &str = "campaigned 0 2; granted 3 2 0; campaigned 1 2; granted 2 2 1; \
+    wrote 1 2 2.8; campaigned 3 3; granted 0 3 3; granted 2 3 3; wrote 3 3 3.9; \
+    appended 3 3 3 2 3.9; acked 3 3 3 3; appended 0 3 3 2 3.9; acked 0 3 3 3; \
+    appended 2 3 3 0 1.102,1.103,3.9; acked 2 3 3 3; committed 3 3 3 1;";
+
+/// Server 3 has votes of servers 2, 3 and 4 in term 2, which are a majority of servers 0 to 4 and
+/// none of servers 0 to 3. A majority of the latter has the config of the former.
+const VOTED: &str = "appended 1 1 0 1 1.103; acked 1 1 0 2; appended 3 1 0 0 1.102,1.103; \
+    acked 3 1 0 2; campaigned 3 2; granted 2 2 3; granted 4 2 3;";
+
+/// Events of the first history, events after them, and the rule that the last one breaks, or `ok`.
+///
+/// Server 3 is elected by the config of servers 0 to 4. Server 1 counts votes by the initial config,
+/// which two configs follow in its log, and so does server 0 with acknowledgements. Server 0 counts
+/// by a config that only its own commit or a later term makes known. Server 3 is elected once a commit
+/// makes the config of servers 0 to 4 known.
+const ROWS: [(&[&str], &str); 6] = [
+    (
+        &[],
+        "\
+campaigned 0 1; granted 1 1 0; wrote 0 1 1.102 = ok
+campaigned 0 1; granted 1 1 0; wrote 0 1 1.103 = ApartConfigs
+campaigned 0 1; wrote 0 1 1.102 = NotElected",
+    ),
+    (
+        &[WRITTEN],
+        "\
+applied 1 1 0 1 = ok
+committed 0 1 0 0 = EarlierTerm
+committed 0 1 1 2 = CountedLate
+committed 0 1 3 0 = NotWritten
+committed 0 1 2 2 = UnknownConfig
+committed 0 1 2 1 = NoQuorum
+applied 1 1 0 2 = NotInLog",
+    ),
+    (
+        &[WRITTEN, COMMITTED],
+        "\
+appended 1 1 0 2 1.7; acked 1 1 0 3; committed 0 1 3 0 = ConfigsFollow
+appended 1 1 0 2 1.7; acked 1 1 0 3; committed 0 1 3 1 = NoQuorum
+appended 1 1 0 2 1.7; acked 1 1 0 3; appended 3 1 0 2 1.7; acked 3 1 0 3; committed 0 1 3 1 = ok",
+    ),
+    (
+        &[WRITTEN, COMMITTED, COMMAND],
+        "\
+campaigned 3 2; granted 4 2 3; granted 0 2 3; wrote 3 2 2.8; appended 3 2 3 3 2.8; \
+    acked 3 2 3 4; appended 4 2 3 3 2.8; acked 4 2 3 4; appended 0 2 3 3 2.8; acked 0 2 3 4; \
+    committed 3 2 4 2; applied 4 2 3 4 = ok
+campaigned 1 2; granted 2 2 1; wrote 1 2 2.8 = NotElected",
+    ),
+    (
+        &[WRITTEN, TAKEN],
+        "\
+committed 0 1 2 2 = UnknownConfig",
+    ),
+    (
+        &[WRITTEN, TAKEN, TERM_3],
+        "\
+granted 4 2 0; wrote 0 2 2.10 = NotElected
+committed 0 1 2 2 = UnknownConfig",
+    ),
+];
+
+/// A candidate that a commit elects, and a change of all voters but one through a joint config,
+/// content 100, which a leader leaves by a config of its new voters, content 101.
+const ELECTED: [(&[&str], &str); 2] = [
+    (
+        &[WRITTEN, VOTED],
+        "\
+committed 0 1 2 1; wrote 3 2 2.8 = ok
+committed 0 1 2 1; appended 4 2 3 0 1.102,1.103; acked 4 2 3 2 = ok
+wrote 3 2 2.8 = NotElected",
+    ),
+    (
+        &[],
+        "\
+campaigned 2 1; granted 1 1 2; wrote 2 1 1.100; appended 1 1 2 0 1.100; acked 1 1 2 1; \
+    appended 2 1 2 0 1.100; acked 2 1 2 1; appended 3 1 2 0 1.100; acked 3 1 2 1; \
+    committed 2 1 1 0; wrote 2 1 1.101; appended 1 1 2 1 1.101; acked 1 1 2 2; \
+    appended 2 1 2 1 1.101; acked 2 1 2 2; appended 3 1 2 1 1.101; acked 3 1 2 2; \
+    committed 2 1 2 1; wrote 2 1 1.7; appended 2 1 2 2 1.7; acked 2 1 2 3; \
+    appended 3 1 2 2 1.7; acked 3 1 2 3; committed 2 1 3 2 = ok",
+    ),
+];
+
+/// Whether the checker takes these events after those of a history, or refuses the last one for the
+/// rule of this name.
+fn is_answered(alloc: Global, history: &[&str], row: &str) -> Result<bool, AllocError> {
+    let (text, name) = row.split_once(" = ").unwrap_or((row, ""));
+    let mut texts = history.to_vec(alloc)?;
+    texts.extend(Some(text))?;
+    let (events, configs) = both(events_of(alloc, &texts), three(alloc))?;
+    match check_counting(alloc, ConfigsCount::WhenApplied, configs, &events) {
+        Ok(()) => Ok(name == "ok"),
+        Err(refused) => Ok(
+            refused.event.saturating_add(1) == events.len()
+                && is_rule(alloc, refused.violation, name),
+        ),
+    }
 }
 
-/// A server keeps so many entries and takes these, and acknowledges all of them to the leader.
-fn take(
+/// Returns the first row of which the answer is wrong.
+fn wrong_row<'a>(
     alloc: Global,
-    events: &mut Vec<Recorded>,
-    ids: (u64, u64, u64),
-    keep: usize,
-    taken: &[(u64, u64)],
-) -> Result<(), AllocError> {
-    let (server, term, leader) = ids;
-    let mut entries = Vec::new(alloc);
-    for entry in taken {
-        entries.push(Entry {
-            term: entry.0,
-            content: entry.1,
-        })?;
+    history: &[&str],
+    rows: &'a str,
+) -> Result<Option<&'a str>, AllocError> {
+    for row in rows.lines() {
+        if !is_answered(alloc, history, row)? {
+            return Ok(Some(row));
+        }
     }
-    let len = keep.saturating_add(taken.len());
-    events.push(Event::Appended {
-        server,
-        term,
-        leader,
-        keep,
-        entries,
-    })?;
-    events.push(acked(server, term, leader, len))?;
-    Ok(())
-}
-
-/// Server 1 leads in term 1. It commits the first config by a majority of the initial one, and
-/// writes the second config.
-fn second_written(alloc: Global) -> Result<Vec<Recorded>, AllocError> {
-    let mut events = vec![in alloc; campaigned(1, 1), granted(2, 1, 1), wrote(1, 1, FIRST)]?;
-    take(alloc, &mut events, (1, 1, 1), 0, &[FIRST])?;
-    take(alloc, &mut events, (2, 1, 1), 0, &[FIRST])?;
-    events.push(committed(1, 1, 1, 0))?;
-    events.push(wrote(1, 1, SECOND))?;
-    take(alloc, &mut events, (1, 1, 1), 1, &[SECOND])?;
-    Ok(events)
-}
-
-/// Server 1 commits the second config by a majority of the first one, and writes a command.
-fn second_committed(alloc: Global) -> Result<Vec<Recorded>, AllocError> {
-    let mut events = second_written(alloc)?;
-    take(alloc, &mut events, (2, 1, 1), 1, &[SECOND])?;
-    take(alloc, &mut events, (4, 1, 1), 0, &[FIRST, SECOND])?;
-    events.push(committed(1, 1, 2, 1))?;
-    events.push(wrote(1, 1, COMMAND))?;
-    take(alloc, &mut events, (1, 1, 1), 2, &[COMMAND])?;
-    Ok(events)
-}
-
-/// Servers 1, 4 and 5, a majority of the second config, have the command, and it is committed.
-fn command_committed(alloc: Global) -> Result<Vec<Recorded>, AllocError> {
-    let mut events = second_committed(alloc)?;
-    take(alloc, &mut events, (4, 1, 1), 2, &[COMMAND])?;
-    take(alloc, &mut events, (5, 1, 1), 0, &[FIRST, SECOND, COMMAND])?;
-    events.push(committed(1, 1, 3, 2))?;
-    Ok(events)
-}
-
-/// The voters change from servers 1 to 3 to servers 1 to 5, one by one. Server 4 leads in term 2, by
-/// votes of the second config.
-fn voters_changed(alloc: Global) -> Result<Vec<Recorded>, AllocError> {
-    let mut events = command_committed(alloc)?;
-    events.extend([
-        campaigned(4, 2),
-        granted(5, 2, 4),
-        granted(1, 2, 4),
-        wrote(4, 2, (2, 8)),
-    ])?;
-    for server in [4, 5, 1] {
-        take(alloc, &mut events, (server, 2, 4), 3, &[(2, 8)])?;
-    }
-    events.push(committed(4, 2, 4, 2))?;
-    Ok(events)
-}
-
-/// Server 2 has both configs and lacks the command. It has votes of the initial config.
-fn two_follow_votes(alloc: Global) -> Result<Vec<Recorded>, AllocError> {
-    let mut events = command_committed(alloc)?;
-    events.extend([campaigned(2, 2), granted(3, 2, 2), wrote(2, 2, (2, 8))])?;
-    Ok(events)
-}
-
-/// Server 1 counts acknowledgements of the command by the initial config.
-fn two_follow_acks(alloc: Global) -> Result<Vec<Recorded>, AllocError> {
-    let mut events = second_committed(alloc)?;
-    take(alloc, &mut events, (2, 1, 1), 2, &[COMMAND])?;
-    events.push(committed(1, 1, 3, 0))?;
-    Ok(events)
-}
-
-/// Servers 1, 4 and 5 acknowledge the second config.
-fn second_taken(alloc: Global) -> Result<Vec<Recorded>, AllocError> {
-    let mut events = second_written(alloc)?;
-    take(alloc, &mut events, (4, 1, 1), 0, &[FIRST, SECOND])?;
-    take(alloc, &mut events, (5, 1, 1), 0, &[FIRST, SECOND])?;
-    Ok(events)
-}
-
-/// Server 1 counts by the config that it would commit.
-fn not_known(alloc: Global) -> Result<Vec<Recorded>, AllocError> {
-    let mut events = second_taken(alloc)?;
-    events.push(committed(1, 1, 2, 2))?;
-    Ok(events)
-}
-
-/// In term 2 server 1 has a vote of server 4, and server 2 is elected by the initial config. In term
-/// 3 server 4 is elected by the first config, and commits the second one.
-fn committed_in_term_3(alloc: Global) -> Result<Vec<Recorded>, AllocError> {
-    let mut events = second_taken(alloc)?;
-    events.extend([
-        campaigned(1, 2),
-        granted(4, 2, 1),
-        campaigned(2, 2),
-        granted(3, 2, 2),
-        wrote(2, 2, (2, 8)),
-        campaigned(4, 3),
-        granted(1, 3, 4),
-        granted(3, 3, 4),
-        wrote(4, 3, (3, 9)),
-    ])?;
-    take(alloc, &mut events, (4, 3, 4), 2, &[(3, 9)])?;
-    take(alloc, &mut events, (1, 3, 4), 2, &[(3, 9)])?;
-    take(alloc, &mut events, (3, 3, 4), 0, &[FIRST, SECOND, (3, 9)])?;
-    events.push(committed(4, 3, 3, 1))?;
-    Ok(events)
-}
-
-/// Server 1 counts votes of term 2 by a config that a leader of term 3 has committed.
-fn later_votes(alloc: Global) -> Result<Vec<Recorded>, AllocError> {
-    let mut events = committed_in_term_3(alloc)?;
-    events.push(granted(5, 2, 1))?;
-    events.push(wrote(1, 2, (2, 10)))?;
-    Ok(events)
-}
-
-/// Server 1 counts acknowledgements of term 1 by a config that a leader of term 3 has committed.
-fn later_acks(alloc: Global) -> Result<Vec<Recorded>, AllocError> {
-    let mut events = committed_in_term_3(alloc)?;
-    events.push(committed(1, 1, 2, 2))?;
-    Ok(events)
-}
-
-/// Server 4 has a majority of the second config in term 2, and none of the first one. It is elected
-/// once server 1 has committed the second config in term 1.
-fn elected_by_a_commit(alloc: Global) -> Result<Vec<Recorded>, AllocError> {
-    let mut events = second_written(alloc)?;
-    take(alloc, &mut events, (2, 1, 1), 1, &[SECOND])?;
-    take(alloc, &mut events, (4, 1, 1), 0, &[FIRST, SECOND])?;
-    events.extend([
-        campaigned(4, 2),
-        granted(3, 2, 4),
-        granted(5, 2, 4),
-        committed(1, 1, 2, 1),
-        wrote(4, 2, (2, 8)),
-    ])?;
-    Ok(events)
-}
-
-/// The voters change from servers 1 to 3 to servers 3 to 5, through the joint config. Server 3 leads
-/// in term 1, and leaves the joint config once it is committed by the initial one.
-fn joint_change(alloc: Global) -> Result<Vec<Recorded>, AllocError> {
-    let joint = (1, 204);
-    let next = (1, 205);
-    let mut events = vec![in alloc; campaigned(3, 1), granted(2, 1, 3), wrote(3, 1, joint)]?;
-    for server in [2, 3, 4] {
-        take(alloc, &mut events, (server, 1, 3), 0, &[joint])?;
-    }
-    events.push(committed(3, 1, 1, 0))?;
-    events.push(wrote(3, 1, next))?;
-    for server in [2, 3, 4] {
-        take(alloc, &mut events, (server, 1, 3), 1, &[next])?;
-    }
-    events.push(committed(3, 1, 2, 1))?;
-    events.push(wrote(3, 1, COMMAND))?;
-    for server in [3, 4] {
-        take(alloc, &mut events, (server, 1, 3), 2, &[COMMAND])?;
-    }
-    events.push(committed(3, 1, 3, 2))?;
-    Ok(events)
-}
-
-/// What the events are refused for, if configs count in this way.
-fn refusal(
-    alloc: Global,
-    counting: ConfigsCount,
-    events: &[Recorded],
-) -> Result<Option<Refused>, AllocError> {
-    Ok(check_counting(alloc, counting, voters(alloc)?, events).err())
-}
-
-/// The refusal of the event of this number, for this rule.
-fn refused(event: usize, rule: Rule) -> Option<Refused> {
-    Some(Refused {
-        event,
-        violation: Violation::Rule(rule),
-    })
+    Ok(None)
 }
 
 #[test]
-fn accepts_a_change_of_voters(rt: HostRuntime) -> Result<(), Fail> {
-    let alloc = rt.alloc();
-    let events = voters_changed(alloc)?;
-    assert!(rt; refusal(alloc, ConfigsCount::WhenApplied, &events)? == None);
-    // No entry is committed when the first config is written.
-    let expected = refused(2, Rule::EarlyConfig);
-    assert!(rt; refusal(alloc, ConfigsCount::WhenAppended, &events)? == expected);
-    Ok(())
-}
-
-#[test]
-fn refuses_each_table_at_its_last_event(rt: HostRuntime) -> Result<(), Fail> {
-    let alloc = rt.alloc();
-    for (events, rule) in [
-        (two_follow_votes(alloc)?, Rule::NotElected),
-        (two_follow_acks(alloc)?, Rule::ConfigsFollow),
-        (not_known(alloc)?, Rule::UnknownConfig),
-        (later_votes(alloc)?, Rule::NotElected),
-        (later_acks(alloc)?, Rule::UnknownConfig),
-    ] {
-        let expected = refused(events.len().saturating_sub(1), rule);
-        assert!(rt;
-            refusal(alloc, ConfigsCount::WhenApplied, &events)? == expected,
-            "{rule}"
-        );
+fn takes_events_or_refuses_them_for_their_rules(rt: HostRuntime) -> Result<(), Fail> {
+    for (history, rows) in ROWS {
+        let wrong = wrong_row(rt.alloc(), history, rows)?;
+        assert!(rt; wrong.is_none(), "{}", wrong.unwrap_or(""));
     }
     Ok(())
 }
 
 #[test]
-fn elects_a_candidate_by_a_config_that_becomes_known(rt: HostRuntime) -> Result<(), Fail> {
-    let alloc = rt.alloc();
-    let events = elected_by_a_commit(alloc)?;
-    assert!(rt; refusal(alloc, ConfigsCount::WhenApplied, &events)? == None);
-    // Without the commit the candidate is not elected.
-    let mut uncommitted = elected_by_a_commit(alloc)?;
-    let last = events.len().saturating_sub(2);
-    uncommitted.remove(last);
-    let expected = refused(last, Rule::NotElected);
-    assert!(rt; refusal(alloc, ConfigsCount::WhenApplied, &uncommitted)? == expected);
-    Ok(())
-}
-
-#[test]
-fn accepts_a_joint_change(rt: HostRuntime) -> Result<(), Fail> {
-    let alloc = rt.alloc();
-    let events = joint_change(alloc)?;
-    assert!(rt; refusal(alloc, ConfigsCount::WhenApplied, &events)? == None);
+fn takes_an_election_that_a_commit_completes(rt: HostRuntime) -> Result<(), Fail> {
+    for (history, rows) in ELECTED {
+        let wrong = wrong_row(rt.alloc(), history, rows)?;
+        assert!(rt; wrong.is_none(), "{}", wrong.unwrap_or(""));
+    }
     Ok(())
 }
