@@ -144,7 +144,8 @@ kept_by c = record {
 
 module _ {T ID D : Type 0} (k : Tests T ID D (Option D)) where
   -- the leader of a term is at this place, and it is elected
-  pub record IsElectedAt (es : List (TraceEvent T ID D)) (t : T) (c : ID) (leaders : List (Leader T ID)) (j : ℕ) : Type 0 where
+  pub record IsElectedAt (es : List (TraceEvent T ID D)) (t : T) (c : ID) (leaders : List (Leader T ID)) (j : ℕ)
+      : Type 0 where
     pub place : position (λ (l : Leader T ID). same_leader k l.term l.id t c) leaders ≡ Some j
     pub elected : is_elected_when k es t c ≡ true
 

@@ -115,7 +115,11 @@ campaigned 2 1; granted 1 1 2; wrote 2 1 1.100; appended 1 1 2 0 1.100; acked 1 
 
 /// Whether the checker takes these events after those of a history, or refuses the last one for the
 /// rule of this name.
-fn is_answered(alloc: Global, history: &[&str], row: &str) -> Result<bool, AllocError> {
+fn is_answered(
+    alloc: Global,
+    history: &[&'static str],
+    row: &'static str,
+) -> Result<bool, AllocError> {
     let (text, name) = row.split_once(" = ").unwrap_or((row, ""));
     let mut texts = history.to_vec(alloc)?;
     texts.extend(Some(text))?;
@@ -130,11 +134,11 @@ fn is_answered(alloc: Global, history: &[&str], row: &str) -> Result<bool, Alloc
 }
 
 /// Returns the first row of which the answer is wrong.
-fn wrong_row<'a>(
+fn wrong_row(
     alloc: Global,
-    history: &[&str],
-    rows: &'a str,
-) -> Result<Option<&'a str>, AllocError> {
+    history: &[&'static str],
+    rows: &'static str,
+) -> Result<Option<&'static str>, AllocError> {
     for row in rows.lines() {
         if !is_answered(alloc, history, row)? {
             return Ok(Some(row));

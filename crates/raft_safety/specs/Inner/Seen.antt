@@ -78,8 +78,8 @@ module _ {T ID D M : Type 0} (k : Tests T ID D M) where
       (λ a. (hold_no_config k (take a log) || is_known_by k (is_earlier k t) (take a log) es)
       && (hold_at_most_one k (drop a log) && is_quorum_of_log k (take a log) voters))
 
--- whether a candidate is elected, and what is noted of it when it has got a vote. If configs count once
--- they are applied, a later commit can elect it, so only a yes says something
+-- whether a candidate is elected, and what was noted of that at its last vote. If configs count once they
+-- are applied, a later commit may elect it, so a no says nothing
 abbrev pub IsElectionOf : ConfigsCount → Bool → Bool → Type 0
 IsElectionOf WhenAppended elected noted = elected ≡ noted
 IsElectionOf WhenApplied elected noted = noted ≡ true → elected ≡ true

@@ -1,4 +1,4 @@
-//! Which rule an event breaks.
+//! Which rule an event breaks. The checker tests before whether the leader is elected.
 ghost use Rattle.std.specs.Prelude.{◌≡◌, ◌⊎◌, ◌<◌, ◌≤◌, ◌++◌, ℕ, Bool, IsNone, None, drop, length, map, take};
 ghost use Rattle.raft_safety.specs.declared.checker.counting.ConfigsCount.TheVariants.{WhenApplied};
 ghost use Rattle.raft_safety.specs.Log.{last_term};

@@ -37,7 +37,8 @@ pub struct Leader<T, N> {
     pub log: usize,
     /// The servers that have voted for the candidate in time, each once.
     pub voters: Vec<N>,
-    /// Whether the candidate is elected.
+    /// Whether the candidate was elected when its last vote was counted. If configs count once they
+    /// are applied, a commit may elect it later.
     pub elected: bool,
     /// What servers have acknowledged to the leader.
     pub acked: Vec<Acked<N>>,
