@@ -7,10 +7,12 @@ use Rattle.raft_members.specs.quorum.Majority.{is_majority}
 use Rattle.raft_safety.specs.Trace.{Tests}
 use Rattle.raft_safety.specs.Memberships.{configs_of, some_meet}
 use Rattle.raft_safety.specs.Inner.CheckerState.{config_in}
+use Rattle.raft_safety.specs.declared.checker.counting.ConfigsCount.TheVariants.{WhenAppended}
 use Rattle.raft_safety.specs.declared.memberships.Memberships.{Memberships}
 
 -- numbers are compared as numbers. A quorum is a majority of each config of a membership, and quorums of
--- two memberships are known to intersect if they share a config, or if majorities of a config of each do
+-- two memberships are known to intersect if they share a config, or if majorities of a config of each do.
+-- Configs count from their append on
 abbrev pub number_tests : Memberships ℕ ℕ → Tests ℕ ℕ ℕ (Option ℕ)
 number_tests m = record {
   rank = λ t. t;
@@ -26,4 +28,5 @@ number_tests m = record {
       let others = configs_of nat_eq m.initial.items (map (λ p. (p.0, p.1.items)) m.held.items) b in
       share_child (λ q r. pointwise nat_eq q.items r.items) these others
       || some_meet nat_eq (λ q. q.items) these others;
+  counting = WhenAppended;
 }

@@ -4,8 +4,10 @@ use Rattle.std.proofs.Common.{refl, sym, ap, subst, ◌∙◌, inl, inr}
 use Rattle.std.specs.Io.KnownBytes.{Keeps}
 use Rattle.serde_json.specs.Data.{Data}
 use Rattle.serde_json.specs.Read.{read}
-use Rattle.raft_safety.specs.Trace.{AreExact, Tests, TracesAreExecutions, TraceEvent}
-use Rattle.raft_safety.specs.Checker.{Keeps as KeepsEvents, configs_of, kept_by}
+use Rattle.raft_safety.specs.Trace.{AreExact, Tests, TracesAreExecutions, TraceEvent, are_allowed, are_allowed_by}
+use Rattle.raft_safety.specs.Counted.{tests_by}
+use Rattle.raft_safety.specs.Checker.{Keeps as KeepsEvents, configs_of, counting_of, kept_by}
+use Rattle.raft_safety.specs.declared.checker.counting.ConfigsCount.TheVariants.{WhenAppended}
 use Rattle.raft_safety.specs.declared.memberships.Memberships.{Memberships}
 use Rattle.raft_trace.specs.Input.{TakesLine, lines}
 use Rattle.raft_trace.specs.Line.{Says}
@@ -27,12 +29,13 @@ use Rattle.raft_trace.specs.declared.judge.Judge.{Judge}
 module _ (tests : Memberships ℕ ℕ → Tests ℕ ℕ ℕ (Option ℕ)) where
   -- a judge that is made has taken no line
   pub started : (line : List ℕ) (judge : Judge) (members : Memberships ℕ ℕ) → configs_of judge.checker ≡ members
-      → SaysStart line members judge.first → AreExact (tests members)
+      → counting_of judge.checker ≡ WhenAppended → SaysStart line members judge.first → AreExact (tests members)
       → KeepsEvents (tests members) [] (kept_by judge.checker) → IsStarted tests line judge
-  started line judge members is says exact keeps = (
+  started line judge members is counting says exact keeps = (
     subst (λ (m : Memberships ℕ ℕ). SaysStart line m judge.first) (sym is) says,
     record {
       exact = subst (λ (m : Memberships ℕ ℕ). AreExact (tests m)) (sym is) exact;
+      counting = counting;
       trace = [];
       is_trace = refl;
       keeps = subst (λ (m : Memberships ℕ ℕ). KeepsEvents (tests m) [] (kept_by judge.checker)) (sym is) keeps;
@@ -42,9 +45,10 @@ module _ (tests : Memberships ℕ ℕ → Tests ℕ ℕ ℕ (Option ℕ)) where
   -- an empty line is taken by doing nothing
   pub takes_empty : (line : List ℕ) (judge : Judge) → line ≡ [] → Takes tests line judge judge
   takes_empty line judge is = (
-    (refl, refl),
+    (refl, refl, refl),
     λ taken has. record {
       exact = has.exact;
+      counting = has.counting;
       trace = has.trace;
       is_trace = (has.trace, has.is_trace, inl (is, refl));
       keeps = has.keeps;
@@ -57,10 +61,11 @@ module _ (tests : Memberships ℕ ℕ → Tests ℕ ℕ ℕ (Option ℕ)) where
   takes_event line old new d e reads says taken_event = (
     taken_event.0,
     λ taken has.
-        let next = taken_event.1 has.exact has.trace has.keeps in
+        let next = taken_event.1 has.exact has.counting has.trace has.keeps in
         let same : tests (configs_of old.checker) ≡ tests (configs_of new.checker) = ap tests (sym taken_event.0.0) in
         record {
           exact = subst (λ (k : Tests ℕ ℕ ℕ (Option ℕ)). AreExact k) same has.exact;
+          counting = taken_event.0.2 ∙ has.counting;
           trace = next.0;
           is_trace = subst (λ (n : ℕ). IsTraceOf n (line ∷ taken) next.0) (sym taken_event.0.1)
               (has.trace, has.is_trace, inr (d, e, reads, says, next.1));
@@ -80,7 +85,7 @@ module _ (tests : Memberships ℕ ℕ → Tests ℕ ℕ ℕ (Option ℕ)) where
 
   pub passed_none : (rest : Option (List ℕ)) (judge : Judge) → HasPassed rest judge rest judge
   passed_none None judge = tt
-  passed_none (Some text) judge = ((refl, refl), λ taken has. (taken, has, refl))
+  passed_none (Some text) judge = ((refl, refl, refl), λ taken has. (taken, has, refl))
 
   pub passed_more : (text rest next : Option (List ℕ)) (old now new : Judge) (line : List ℕ) (is_last : Bool)
       → is_last ≡ false → HasPassed text old rest now → TakesLine rest line is_last next → Takes tests line now new
@@ -91,7 +96,7 @@ module _ (tests : Memberships ℕ ℕ → Tests ℕ ℕ ℕ (Option ℕ)) where
   passed_more (Some text) (Some rest) (Some next) old now new line is_last not_last passed reads takes =
       let cut : lines rest ≡ line ∷ lines next =
       subst (λ (b : Bool). TakesLine (Some rest) line b (Some next)) not_last reads in (
-        (takes.0.0 ∙ passed.0.0, takes.0.1 ∙ passed.0.1),
+        (takes.0.0 ∙ passed.0.0, takes.0.1 ∙ passed.0.1, takes.0.2 ∙ passed.0.2),
         λ taken has.
             let so_far = passed.1 taken has in (
               line ∷ so_far.0,
@@ -109,7 +114,7 @@ module _ (tests : Memberships ℕ ℕ → Tests ℕ ℕ ℕ (Option ℕ)) where
   passed_last (Some text) (Some rest) (Some next) old now new line is_last last passed reads takes =
       let cut : lines rest ≡ line ∷ [] =
       (subst (λ (b : Bool). TakesLine (Some rest) line b (Some next)) last reads).0 in (
-        (takes.0.0 ∙ passed.0.0, takes.0.1 ∙ passed.0.1),
+        (takes.0.0 ∙ passed.0.0, takes.0.1 ∙ passed.0.1, takes.0.2 ∙ passed.0.2),
         λ taken has.
             let so_far = passed.1 taken has in
             let all : and_lines taken (lines text) ≡ line ∷ so_far.0 = so_far.2 ∙ ap (and_lines so_far.0) cut in
@@ -118,10 +123,14 @@ module _ (tests : Memberships ℕ ℕ → Tests ℕ ℕ ℕ (Option ℕ)) where
 
   -- a judge that has taken all lines after the first one
   is_safe : ((m : Memberships ℕ ℕ) (t u : ℕ) → (tests m).rank t ≡ (tests m).rank u → t ≡ u)
+      → ((m : Memberships ℕ ℕ) → (tests m).counting ≡ WhenAppended)
       → TracesAreExecutions ℕ ℕ ℕ (Option ℕ) → (text line : List ℕ) (later : List (List ℕ)) (old new : Judge)
       → lines text ≡ line ∷ later → SaysStart line (configs_of old.checker) old.first → GoesOn tests old new
       → HasTaken tests (and_lines [] later) new → SafeRun tests text
-  is_safe ranks law text line later old new is says goes has =
+  is_safe ranks appended law text line later old new is says goes has =
+      let k : Tests ℕ ℕ ℕ (Option ℕ) = tests (configs_of new.checker) in
+      let allowed : are_allowed k has.trace ≡ true =
+      subst (λ w. are_allowed_by k (tests_by k w) has.trace ≡ true) (appended (configs_of new.checker)) has.keeps.seen.allowed in
       let starts : SaysStart line (configs_of new.checker) new.first =
       subst (λ (m : Memberships ℕ ℕ). SaysStart line m new.first) (sym goes.0)
       (subst (λ (n : ℕ). SaysStart line (configs_of old.checker) n) (sym goes.1) says) in
@@ -134,34 +143,36 @@ module _ (tests : Memberships ℕ ℕ → Tests ℕ ℕ ℕ (Option ℕ)) where
         starts = starts;
         trace = has.trace;
         is_trace = has.is_trace;
-        allowed = has.keeps.seen.allowed;
+        allowed = allowed;
         safe = law (tests (configs_of new.checker)) has.exact has.trace
-            (λ t u in_t in_u e. ranks (configs_of new.checker) t u e) has.keeps.seen.allowed;
+            (λ t u in_t in_u e. ranks (configs_of new.checker) t u e) allowed;
       }
 
   -- the first line is the only one
   pub safe_alone : ((m : Memberships ℕ ℕ) (t u : ℕ) → (tests m).rank t ≡ (tests m).rank u → t ≡ u)
+      → ((m : Memberships ℕ ℕ) → (tests m).counting ≡ WhenAppended)
       → TracesAreExecutions ℕ ℕ ℕ (Option ℕ) → (text next : Option (List ℕ)) (line : List ℕ) (is_last : Bool)
       (judge : Judge) → is_last ≡ true → TakesLine text line is_last next → IsStarted tests line judge
       → IsSafeRun tests text
-  safe_alone ranks law None next line is_last judge last reads start = tt
-  safe_alone ranks law (Some text) None line is_last judge last reads start = absurd reads
-  safe_alone ranks law (Some text) (Some next) line is_last judge last reads start =
+  safe_alone ranks appended law None next line is_last judge last reads start = tt
+  safe_alone ranks appended law (Some text) None line is_last judge last reads start = absurd reads
+  safe_alone ranks appended law (Some text) (Some next) line is_last judge last reads start =
       let cut : lines text ≡ line ∷ [] =
       (subst (λ (b : Bool). TakesLine (Some text) line b (Some next)) last reads).0 in
-      is_safe ranks law text line [] judge judge cut start.0 (refl, refl) start.1
+      is_safe ranks appended law text line [] judge judge cut start.0 (refl, refl, refl) start.1
 
   -- all lines after the first one are taken
   pub safe_all : ((m : Memberships ℕ ℕ) (t u : ℕ) → (tests m).rank t ≡ (tests m).rank u → t ≡ u)
+      → ((m : Memberships ℕ ℕ) → (tests m).counting ≡ WhenAppended)
       → TracesAreExecutions ℕ ℕ ℕ (Option ℕ) → (text next : Option (List ℕ)) (line : List ℕ) (is_last : Bool)
       (old new : Judge) → is_last ≡ false → TakesLine text line is_last next → IsStarted tests line old
       → TakesAll tests next old new → IsSafeRun tests text
-  safe_all ranks law None next line is_last old new not_last reads start takes = tt
-  safe_all ranks law (Some text) None line is_last old new not_last reads start takes = absurd reads
-  safe_all ranks law (Some text) (Some next) line is_last old new not_last reads start takes =
+  safe_all ranks appended law None next line is_last old new not_last reads start takes = tt
+  safe_all ranks appended law (Some text) None line is_last old new not_last reads start takes = absurd reads
+  safe_all ranks appended law (Some text) (Some next) line is_last old new not_last reads start takes =
       let cut : lines text ≡ line ∷ lines next =
       subst (λ (b : Bool). TakesLine (Some text) line b (Some next)) not_last reads in
-      is_safe ranks law text line (lines next) old new cut start.0 takes.0 (takes.1 [] start.1)
+      is_safe ranks appended law text line (lines next) old new cut start.0 takes.0 (takes.1 [] start.1)
 
   -- a run is safe if it is so as it is read
   pub kept_safe : (text read_text : Option (List ℕ)) → Keeps text read_text → IsSafeRun tests read_text

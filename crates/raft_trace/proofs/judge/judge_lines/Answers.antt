@@ -1,4 +1,4 @@
-use Rattle.std.proofs.Common.{◌≡◌}
+use Rattle.std.proofs.Common.{◌≡◌, refl}
 use Rattle.std.proofs.lemmas.Result.{IfOk-weaker}
 use Rattle.std.specs.Io.Buffered.{reader_remaining}
 use Rattle.raft_trace.specs.Numbers.{number_tests}
@@ -10,7 +10,7 @@ pub returns-then-is_last : goal.returns-then-is_last
 returns-then-is_last g c = λ _.
     kept_safe number_tests (g.R.Read.remaining c.args.reader) (reader_remaining g.R.Read.remaining c.in_ok-input.input)
     c.in_ok-input.ensures
-    (safe_alone number_tests (λ m t u e. e) c.traces_are_executions.ensures
+    (safe_alone number_tests (λ m t u e. e) (λ m. refl) c.traces_are_executions.ensures
     (reader_remaining g.R.Read.remaining c.in_ok-input.input) (reader_remaining g.R.Read.remaining c.read_line.new.input)
     c.read_line.new.line.items c.in_ok-is_last.is_last c.in-Ok.judge c.if-is_last.true c.in_ok-is_last.ensures
     (rw c.deref.ensures.value at c.in-Ok.ensures))
@@ -24,7 +24,7 @@ returns-in-Ok g c =
     (λ status rest zero.
     kept_safe number_tests (g.R.Read.remaining c.args.reader) (reader_remaining g.R.Read.remaining c.in_ok-input.input)
     c.in_ok-input.ensures
-    (safe_all number_tests (λ m t u e. e) c.traces_are_executions.ensures
+    (safe_all number_tests (λ m t u e. e) (λ m. refl) c.traces_are_executions.ensures
     (reader_remaining g.R.Read.remaining c.in_ok-input.input) (reader_remaining g.R.Read.remaining c.read_line.new.input)
     c.read_line.new.line.items c.in_ok-is_last.is_last c.in-Ok.judge c.judge_rest.new.judge c.if-is_last.false
     c.in_ok-is_last.ensures (rw c.deref.ensures.value at c.in-Ok.ensures) (rest zero))) c.judge_rest.ensures

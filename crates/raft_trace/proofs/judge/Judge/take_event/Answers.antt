@@ -4,10 +4,10 @@ use Rattle.raft_trace.proofs.judge.Judge.take_event.Goals as goal
 
 pub returns : goal.returns
 returns c = (
-  (c.in_ok-record.ensures.configs, refl),
-  λ exact es keeps. (
+  (c.in_ok-record.ensures.configs, refl, c.in_ok-record.ensures.counting),
+  λ exact appended es keeps. (
     trace_event c.args.event.now ∷ es,
     inl refl,
-    (c.in_ok-record.ensures.answer exact es keeps).1,
+    ((rw appended at c.in_ok-record.ensures.answer) exact es keeps).1,
   ),
 )
