@@ -3,7 +3,7 @@
 use crate::merged::{TWO_LISTS, lists_of};
 use crate::recorded::{Checked, Recorded, events_of, record_all, three};
 use raft_safety::check::check;
-use raft_safety::checker::{Checker, LearnError, Violation};
+use raft_safety::checker::{Checker, ConfigsCount, LearnError, Violation};
 use raft_safety::event::Event;
 use raft_safety::memberships::Memberships;
 use raft_safety::merge::check_each;
@@ -14,7 +14,7 @@ use std::io;
 use std::test::Fail;
 
 /// The calls that allocate. A record is one of an event of `HISTORY`, at this position.
-const CALLS: [(&str, usize); 11] = [
+const CALLS: [(&str, usize); 12] = [
     ("Checker::record, Restarted", 0),
     ("Checker::record, Campaigned", 1),
     ("Checker::record, Granted", 2),
@@ -22,6 +22,7 @@ const CALLS: [(&str, usize); 11] = [
     ("Checker::record, Appended", 4),
     ("Checker::record, Acked", 6),
     ("Checker::record, Committed", 9),
+    ("Checker::record, Committed, of applied configs", 9),
     ("Checker::record, a later Campaigned", 10),
     ("Checker::learn", 0),
     ("check", 0),
@@ -51,9 +52,13 @@ fn records(checker: &mut Checked, events: &[Recorded]) -> Result<bool, AllocErro
     }
 }
 
-/// A checker that has recorded these events.
-fn checked(alloc: Global, events: &[Recorded]) -> Result<Checked, AllocError> {
-    let Ok(mut checker) = Checker::new(alloc, three(alloc)?) else {
+/// A checker that has recorded these events, if configs count in this way.
+fn checked(
+    alloc: Global,
+    counting: ConfigsCount,
+    events: &[Recorded],
+) -> Result<Checked, AllocError> {
+    let Ok(mut checker) = Checker::counting(alloc, counting, three(alloc)?) else {
         return Err(AllocError);
     };
     if records(&mut checker, events)? {
@@ -65,10 +70,14 @@ fn checked(alloc: Global, events: &[Recorded]) -> Result<Checked, AllocError> {
 
 /// Records the event of `HISTORY` at a position after those before it, with an allocation refused.
 /// If memory was out, the checker has to take this event and all later ones afterwards.
-fn record(allocation: Allocation, position: usize) -> Result<bool, AllocError> {
+fn record(
+    allocation: Allocation,
+    counting: ConfigsCount,
+    position: usize,
+) -> Result<bool, AllocError> {
     let events = history(allocation.alloc)?;
     let (before, rest) = events.split_at(position.min(events.len()));
-    let mut checker = checked(allocation.alloc, before)?;
+    let mut checker = checked(allocation.alloc, counting, before)?;
     let Some(event) = rest.first() else {
         return Err(AllocError);
     };
@@ -118,7 +127,10 @@ fn check_all(allocation: Allocation, has_lists: bool) -> Result<bool, AllocError
 /// out, the checker has to learn of it afterwards.
 fn learn(allocation: Allocation) -> Result<bool, AllocError> {
     let alloc = allocation.alloc;
-    let (mut checker, configs) = both(checked(alloc, &history(alloc)?), Ok(Vec::new(alloc)))?;
+    let (mut checker, configs) = both(
+        checked(alloc, ConfigsCount::WhenAppended, &history(alloc)?),
+        Ok(Vec::new(alloc)),
+    )?;
     allocation.refuse();
     match checker.learn(104, configs) {
         Ok(()) => Ok(true),
@@ -136,7 +148,10 @@ fn call(allocation: Allocation, name: &str, position: usize) -> Result<bool, All
         "Checker::learn" => learn(allocation),
         "check" => check_all(allocation, false),
         "check_each" => check_all(allocation, true),
-        _ => record(allocation, position),
+        "Checker::record, Committed, of applied configs" => {
+            record(allocation, ConfigsCount::WhenApplied, position)
+        }
+        _ => record(allocation, ConfigsCount::WhenAppended, position),
     }
 }
 
@@ -164,7 +179,10 @@ type Held = (Option<Memberships<u64, u64>>, Checked);
 fn held(alloc: Global) -> Result<Held, AllocError> {
     let events = history(alloc)?;
     let (before, _) = events.split_at(LAST.min(events.len()));
-    let (configs, checker) = both(three(alloc), checked(alloc, before))?;
+    let (configs, checker) = both(
+        three(alloc),
+        checked(alloc, ConfigsCount::WhenAppended, before),
+    )?;
     Ok((Some(configs), checker))
 }
 
