@@ -516,16 +516,17 @@ has to do for it, and what is outside. `laws::runs_are_safe` of `{crate}` says:
 
 > {sentence}
 
-So two servers never apply entries with different log ids at one index. A *run* is what a cluster can
-do. It begins with servers that have not voted, and whose logs have at most the entry at index 0. Then
-one server after another takes a *step*: a call of a handler, a vote that it takes from a response, a
-send, a restart, or a purge of its log. A call may take a message from the network, and a step may put
-one there. The network keeps each message, so a server may receive it at any later time, more than
-once, or never.
+So two servers never apply entries with different log ids at one index. A *run* is what a cluster
+can do. It begins with servers that have not voted, and whose logs have at most the entry at index
+0. Then one server after another takes a *step*: a call of a handler, a vote that it takes from a
+response, a send, a restart, or a purge of its log. A call may take a message from the network, and
+a step may put one there. The network keeps each message, so a server may receive it at any later
+time, more than once, or never.
 
-A step says how the server's state before it and its state after it differ. For a call that is what the
-contract of the handler promises, and the handler is proved to keep its contract. What a step requires
-besides is the part of the engine, which the [next section](#what-an-engine-does) says in words.
+A step says how the server's state before it and its state after it differ. For a call that is what
+the contract of the handler promises, and the handler is proved to keep its contract. What a step
+requires besides is the part of the engine, which the [next section](#what-an-engine-does) says in
+words.
 
 `tools/docs.py` writes this page from the [definitions](#the-definitions), their comments, and
 [CALLING.md](../../crates/{crate}/CALLING.md). The gate refuses the page if it is stale.
@@ -541,10 +542,10 @@ A call that is refused, or that runs out of memory and changes nothing, is no st
 RUN_DEFINITIONS = """
 ## The definitions
 
-These are the definitions of a run, verbatim and in reading order: the claim, what a cluster, a world
-and a message are, the first world, and the steps. The heading of the page counts them, and their lines
-without comments. A definition of another crate has a link to its file, and [the index](words.md) says
-what it means.
+These are the definitions of a run, verbatim and in reading order: the claim, what a cluster, a
+world and a message are, the first world, and the steps. The heading of the page counts them, and
+their lines without comments. A definition of another crate has a link to its file, and [the
+index](words.md) says what it means.
 
 A definition inside a `module` takes the parameters of the module too.
 [DEFINITIONS.md](../DEFINITIONS.md#how-a-clause-reads) explains how a definition is read.

@@ -174,7 +174,7 @@ impl Server {
     pub fn hear_of(&mut self, vote: Vote) {
         self.term = self.term.max(vote.leader_id.get_term());
         if vote > self.vote() {
-            *self.state.vote.get_mut() = vote;
+            self.state.promise(vote);
             self.follow();
         }
     }

@@ -155,7 +155,7 @@ fn match_log<NID: NodeId, N: Node, I: Instant, L: Drop, C: Ord + Copy + Drop, D>
     Ok((Outcome::Matches(last), changes))
 }
 
-/// The index of a log id, if the log does not have it and its index is not purged.
+/// Returns the index of a log id, if the log does not have it and its index is not purged.
 fn conflict_of<NID: NodeId, N: Node, I: Instant, L: Drop, C: Ord + Copy + Drop>(
     state: &RaftStateIn<NID, N, I, L, C>,
     prev: Option<LogIdOf<C>>,
@@ -210,7 +210,7 @@ fn take_entries<NID: NodeId, N: Node, I: Instant, L: Drop, C: Ord + Copy + Drop,
     })
 }
 
-/// The lesser one of two log ids that may be absent.
+/// Returns the lesser one of two log ids that may be absent.
 fn least<C: Ord + Copy>(a: Option<LogIdOf<C>>, b: Option<LogIdOf<C>>) -> Option<LogIdOf<C>>
     ensures { result ≡ least C.cmp a b }
 {

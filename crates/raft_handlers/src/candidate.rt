@@ -37,7 +37,7 @@ pub fn may_lead<NID: NodeId, N: Node, I: Instant, L: Drop, C: Ord + Copy + Drop>
     state.membership_state.is_voter(id) || state.membership_state.committed().is_voter(id)
 }
 
-/// How an election stands.
+/// The result of an election so far.
 #[derive(Debug, Clone, Copy, PartialEq, Eq)]
 pub enum Tally {
     /// A majority of each config has voted for the candidate.
@@ -149,8 +149,8 @@ impl<
         }
     }
 
-    /// Returns how the election stands if these nodes have refused. A node that has voted for the
-    /// candidate counts as a voter for it, even if it is among these.
+    /// Returns the result of the election so far, if these nodes have refused. A node that has voted
+    /// for the candidate counts as a voter for it, even if it is among these.
     ///
     /// The election is won if a majority of each config has voted for the candidate. Otherwise it is
     /// lost if those who have voted or have not refused are no majority of some config: then stop

@@ -192,8 +192,8 @@ fn continue_log<NID: NodeId, N: Node, C: Ord + Copy, D>(
     true
 }
 
-/// Why entries may not be appended: they are not in order after the log, or else their memberships
-/// are not.
+/// Returns why entries may not be appended: they are not in order after the log, or otherwise their
+/// memberships are not.
 fn refusal<NID: NodeId, N: Node, I: Instant, L: Drop, C: Ord + Copy + Drop, D>(
     state: &RaftStateIn<NID, N, I, L, C>,
     new: &[EntryOf<C, NID, N, D>],

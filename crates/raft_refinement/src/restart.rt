@@ -11,9 +11,9 @@ use raft_base::{Instant, LeaderIdentity, Node, NodeId};
 use raft_handlers::{RestartError, State, Stored, restart_server};
 use std::alloc::Global;
 
-/// Restarts a server, as `restart_server` does. If its disk has its vote and its log, the server has
-/// done nothing that the rules speak of, and knows no more to be committed than before, it is the
-/// server that it was.
+/// Restarts a server, as `restart_server` does. If its disk has its vote and its log, and if it
+/// knows no more to be committed than before, it is the server that it was: a restart is no event
+/// that the rules speak of.
 ///
 /// `at` has the place of the server, and what was seen of its state.
 pub fn restarts<NID: NodeId, N: Node, I: Instant, L: LeaderIdentity<Id = NID> + Drop, D, E>(

@@ -146,9 +146,9 @@ impl<NID: NodeId, N: Node, C: Ord + Copy + Drop> Leader<NID, N, C> {
     ghost use Rattle.std.specs.Option.{option_cmp};
     ghost use Rattle.raft_progress.specs.tracked.Tracked.{tracked_view};
 
-    /// What is known of the members of a membership once the log has this end: those who stay keep
-    /// what is known of them, and nothing is known of the others. The requests to these are numbered anew, after
-    /// those that the leader has sent.
+    /// Returns what is known of the members of a membership once the log has this end: those who
+    /// stay keep what is known of them, and nothing is known of the others. The requests to the
+    /// others are numbered after those that the leader has sent.
     fn followers_over(
         &self,
         members: Membership<NID, N>,

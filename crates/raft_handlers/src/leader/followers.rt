@@ -203,7 +203,7 @@ fn take_conflict<NID: NodeId, N: Node, C: Ord + Copy>(
     taken
 }
 
-/// Returns the index after the last one of a log, or the greatest index if there is none.
+/// Returns the index after the last one, at most the greatest index, and 0 for an empty log.
 fn end_after(last: Option<u64>) -> u64
     ensures { result ≡ end_after last }
 {
@@ -229,7 +229,7 @@ fn if_known<NID: NodeId, N: Node, C: Ord + Copy>(
     }
 }
 
-/// The refusal of what is in flight as one of the leader.
+/// Returns the result with its refusal as a refusal of the leader.
 #[inline(always)]
 fn refuse(taken: Option<Result<(), InflightError>>) -> Option<Result<(), ResponseError>>
     ensures { result ≡ option_map as_refused taken }

@@ -59,7 +59,7 @@ impl fmt::Display for Bar {
     }
 }
 
-/// Returns the index after a log id, or the greatest index if there is none.
+/// Returns the index after a log id, at most the greatest index, and 0 if there is no log id.
 fn end_of<C: Copy>(log_id: Option<LogIdOf<C>>) -> u64 {
     match log_id {
         Some(found) => found.index.saturating_add(1),
