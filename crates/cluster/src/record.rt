@@ -4,11 +4,21 @@
 //! A log of the laws has no entry 0, so the first entry that a leader writes has index 1, and an index
 //! is a number of first entries.
 
-use crate::trace::{Act, Entry, Term};
+use crate::types::CommittedLeaderId;
+use raft_safety::entry::Entry as LawEntry;
 use raft_safety::event::Event;
 use raft_safety::term::Term as _;
 use std::alloc::{AllocError, Global};
 use std::collections::BTreeMap;
+
+/// A term of the laws: the committed leader id of a leader.
+pub type Term = CommittedLeaderId;
+
+/// An entry: its term, and a number for what it holds.
+pub type Entry = LawEntry<Term, u64>;
+
+/// An act of a server.
+pub type Act = Event<Term, u64, u64>;
 
 /// The first line of each list. The first three servers are the first voters.
 const STARTED: &str = "{\"event\":\"started\",\"voters\":[[1,2,3]],\"first\":1}\n";

@@ -3,23 +3,12 @@
 //! `raft_safety` proves: if each recorded act was allowed by those before it, the cluster is safe.
 //! Its checker says whether they were. A log of the laws has no entry 0, which starts the cluster.
 
-use crate::record::Record;
-use crate::types::CommittedLeaderId;
+use crate::record::{Act, Entry, Record, Term};
 use raft_safety::check::Refused;
 use raft_safety::checker::{Checker, LearnError, Violation};
-use raft_safety::entry::Entry as LawEntry;
 use raft_safety::event::Event as LawEvent;
 use raft_safety::memberships::Memberships;
 use std::alloc::{AllocError, Global};
-
-/// A term of the laws: the committed leader id of a leader.
-pub type Term = CommittedLeaderId;
-
-/// An entry: its term, and a number for what it holds.
-pub type Entry = LawEntry<Term, u64>;
-
-/// An act of a server.
-pub type Act = LawEvent<Term, u64, u64>;
 
 /// What a server has said or done that its state does not show.
 #[derive(Clone, Copy)]
