@@ -10,7 +10,8 @@ The check refuses
 - a page of docs/reference that is not what the sources give, or that no library has;
 - a link between documents to a file or a heading that is not there;
 - a program or a script in a document that no file of the crates has, and a program on a page for
-  callers that lacks a `use`;
+  callers that lacks a `use`; a program in another language that no file of docs/trace has; a recorded
+  run that is none of crates/raft_trace/runs, and an answer to it that its row there does not have;
 - an example of a test without a number of its own, and a number without a test;
 - a picture of docs/ARCHITECTURE.md that disagrees with the imports, and modules that import each
   other in a circle;
@@ -944,6 +945,26 @@ def files_of_crates():
 
 
 RUST = re.compile(r"^```rust\n(.*?)^```", re.M | re.S)
+# Programs in other languages, and recorded runs, with the files that have them.
+OTHER = re.compile(r"^```(go|java|cpp|json)\n(.*?)^```", re.M | re.S)
+OTHERS = {"go": "docs/trace/*.go", "java": "docs/trace/*.java", "cpp": "docs/trace/*.hpp", "json": "crates/raft_trace/runs/*.jsonl"}
+# A recorded run, and the first line of the next block of text, which is the answer.
+ANSWERED = re.compile(r"^```json\n(.*?)^```(?:(?!^```).)*^```text\n(.*?)\n", re.M | re.S)
+RECORDED = CRATES / "raft_trace" / "runs"
+RUN_ROW = re.compile(r"^\| \[`(\w+)`\]\(\w+\.jsonl\) \|[^|]*\| 1 \| (\d+) \| (.*) \|$", re.M)
+
+
+@functools.cache
+def answers():
+    """Returns the answers that are due to the refused runs of the table: by a run, how it begins, and how it ends."""
+    rows = RUN_ROW.findall((RECORDED / "README.md").read_text())
+    return {(RECORDED / f"{name}.jsonl").read_text(): (f"line {line}: ", f": {rule}") for name, line, rule in rows}
+
+
+def is_answer(run, answer):
+    """Whether the table of recorded runs has an answer to a run."""
+    begin, end = answers().get(run, ("", ""))
+    return bool(begin) and answer.startswith(begin) and answer.endswith(end)
 
 
 def program_faults(documents):
@@ -960,6 +981,12 @@ def program_faults(documents):
             elif path.name == "CALLING.md":
                 for name in min((file.lacks(block) for file in having), key=len):
                     yield f"{path.relative_to(ROOT)}: the program {place} lacks a `use` of {name}"
+        for place, (language, block) in enumerate(OTHER.findall(text), 1):
+            if not any(block in file.read_text() for file in ROOT.glob(OTHERS[language])):
+                yield f"{path.relative_to(ROOT)}: no file has the program {place} in another language"
+        for run, answer in ANSWERED.findall(text):
+            if not is_answer(run, answer):
+                yield f"{path.relative_to(ROOT)}: the table of recorded runs does not answer: {answer}"
         for place, script in enumerate(scripts_of(text), 1):
             if list(script) not in scripts:
                 yield f"{path.relative_to(ROOT)}: no file has the script {place}"
@@ -1324,6 +1351,8 @@ def planted(documents):
             yield "pages", path, (len(text), len(text)), "more\n"
     for path, text in guides_of(documents).items():
         yield from (("programs", path, (block.end(1), block.end(1)), "fn more() {}\n") for block in RUST.finditer(text))
+        yield from (("programs", path, (block.end(2), block.end(2)), "more\n") for block in OTHER.finditer(text))
+        yield from (("programs", path, (found.end(2), found.end(2)), "x") for found in ANSWERED.finditer(text))
         yield from (("programs", path, row.span(1), "more ") for row in SCRIPT_ROW.finditer(text))
         if place := PLACED.search(text):
             yield "places", path, (place.start(2),) * 2, "No"
@@ -1370,7 +1399,7 @@ def main():
         PAGES.mkdir(exist_ok=True)
         for path, text in pages.items():
             path.write_text(text)
-    paths = [*ROOT.glob("*.md"), *ROOT.glob("docs/**/*.md"), *CRATES.glob("*/*.md")]
+    paths = [*ROOT.glob("*.md"), *ROOT.glob("docs/**/*.md"), *CRATES.glob("*/*.md"), RECORDED / "README.md"]
     documents = {path: path.read_text() for path in sorted(paths)}
     tests = checks(modules, definitions, pages, counts)
     if sys.argv[1:] == ["--self-test"]:

@@ -4,7 +4,9 @@
 # Usage: tools/programs.sh [statuses | seeds]
 #
 # `statuses` compares the exit status, the output and the standard error of `raft-state`, also for odd
-# input and with words on its command line, of the options of the simulated cluster, and of `raft_trace`.
+# input and with words on its command line, of the options of the simulated cluster, and of `raft_trace`. It compares
+# the answers of `raft_trace` to the runs of crates/raft_trace/runs with the table there, and to recorded runs of the
+# simulated cluster, without a fault and with each planted one, with the rule that names the fault.
 # `seeds` runs the cluster: 2,000 seeds and long runs, each of which must be safe and converge and never be long without a
 # commit, and 300 seeds with each planted fault, which some must show. It also runs 50 seeds over openraft's
 # default leader ids, by a copy of the sources that is not proved. Without a word the tool does both.
@@ -14,7 +16,8 @@ crate=crates/raft_script
 passed=0
 failed=0
 errors=$(mktemp)
-trap 'rm -f "$errors"' EXIT
+record=$(mktemp)
+trap 'rm -f "$errors" "$record"' EXIT
 
 # Counts a run: its name, whether it is right, and what is wrong otherwise.
 count() {
@@ -98,6 +101,8 @@ statuses() {
     compare "--help into a full device" 1 "" "fault" run_into_full_device --help
     options
     records
+    written_runs
+    recorded_runs
 }
 
 # The answers of `raft_trace`, also to odd input.
@@ -129,6 +134,59 @@ records() {
     compare "a word for raft_trace" 2 "" "$(trace --help)" trace record.jsonl < <(start)
 }
 
+# Judges a record: its name, the status that is due, how the first line of the answer begins, what it ends with, or has
+# in it if the run is safe, and the file.
+judge() {
+    local name=$1 status=$2 begin=$3 end=$4 answer is=wrong
+    answer=$(trace < "$5")
+    [ $? = "$status" ] && case "$status ${answer%%$'\n'*}" in
+        "0 $begin"*"$end"* | "1 $begin"*": $end") is=right ;;
+    esac
+    count "$name" $is "answered '$answer', and '$begin .. $end' is due"
+}
+
+# The runs that were written by hand: each row of their table has a run, the status, the line, and the answer.
+written_runs() {
+    local runs=crates/raft_trace/runs rows=0 name status line answer begin is=wrong
+    while IFS='|' read -r _ name _ status line answer _; do
+        name=${name#*\`}
+        name=${name%%\`*}
+        read -r status <<< "$status"
+        read -r line <<< "$line"
+        read -r answer <<< "$answer"
+        begin="safe: "
+        [ "$status" = 1 ] && begin="line $line: "
+        judge "the run $name" "$status" "$begin" "$answer" "$runs/$name.jsonl"
+        rows=$((rows + 1))
+    done < <(grep '^| \[`' $runs/README.md)
+    [ "$rows" = "$(find $runs -name '*.jsonl' | wc -l)" ] && is=right
+    count "the table of runs" $is "it has $rows rows, and not one for each run"
+}
+
+# Records a run of the cluster and judges it: the status, the answer's end, and the options of the cluster.
+judge_cluster() {
+    local status=$1 end=$2 begin="safe: "
+    shift 2
+    : > "$record"
+    cluster chart=0 "trace=$record" "$@" > /dev/null 2>&1
+    [ "$status" = 1 ] && begin="line $(wc -l < "$record"): "
+    judge "a recorded cluster, $*" "$status" "$begin" "$end" "$record"
+}
+
+# Recorded runs of the cluster. The checker of a run with a fault refuses its last event, so the record ends there.
+recorded_runs() {
+    judge_cluster 0 "" seed=16 events=150
+    judge_cluster 1 "the last committed entry is of an earlier term" seed=44 fault=CommitEarlierTerm
+    judge_cluster 1 "the candidate's log is not as up to date as the server's" seed=85 fault=IgnoreLastLog
+    judge_cluster 1 "the server has reached or passed the term already" seed=18 fault=VoteTwice
+    judge_cluster 1 "the leader is not elected in the term" seed=85 fault=CountRefusal
+    judge_cluster 1 "the server has reached or passed the term already" seed=260 fault=ForgetVote
+    judge_cluster 1 "the server has not kept the leader's entries since the term" seed=6 fault=KeepConflicts
+    judge_cluster 1 "the server has not kept the leader's entries since the term" seed=44 fault=AcknowledgeUnwritten
+    judge_cluster 1 "the server has not kept the leader's entries since the term" seed=90 fault=AcknowledgeUninstalled
+    judge_cluster 1 "the server has reached or passed the term already" seed=79 fault=FollowPassedLeader
+}
+
 # The options of the cluster: refused ones, and the help.
 options() {
     local said widest
@@ -137,6 +195,8 @@ options() {
         cluster seed=18446744073709551615 seeds=2
     compare "an option twice" 1 "" "Error: 'seed' comes more than once" cluster seed=1 chart=0 seed=2
     compare "no option" 1 "" "Error: 'sed=1' is no option; \`--help\` lists the options" cluster sed=1
+    compare "two records" 1 "" "Error: 'trace' and 'traces' exclude each other" cluster trace=a traces=b
+    compare "no path" 1 "" "Error: 'trace=' has no path as its value" cluster trace=
     compare "no fault" 1 "" "Error: 'fault=None' names no fault; \`--help\` lists the faults" \
         cluster fault=None
     compare "the greatest seed" 0 "" "" silent_cluster seed=18446744073709551615 seeds=1

@@ -5,6 +5,7 @@ use crate::event::{CALM, Event, TROUBLE, draw};
 use crate::message::Message;
 use crate::network::Network;
 use crate::options::Options;
+use crate::record::Record;
 use crate::safety::{History, Violation};
 use crate::server::{SERVERS, Server};
 use crate::tally::Tally;
@@ -40,7 +41,7 @@ pub struct Cluster {
 }
 
 /// What was found of a cluster.
-#[derive(Clone, Copy)]
+#[derive(Drop)]
 pub struct Verdict {
     /// How many events have happened.
     pub events: u64,
@@ -48,6 +49,8 @@ pub struct Verdict {
     pub found: Result<(), Violation>,
     /// Whether the rules of the laws of safety allow what was recorded.
     pub rules: Result<(), Refused>,
+    /// What the servers have done, if it is to be recorded.
+    pub record: Record,
 }
 
 impl Cluster {
@@ -55,23 +58,27 @@ impl Cluster {
     pub fn simulate(
         alloc: Global,
         seed: u64,
-        options: &Options,
+        options: &Options<'_>,
         tally: &mut Tally,
         chart: &mut String,
     ) -> Result<Verdict, Violation> {
         let mut cluster = Cluster::new(alloc, seed, options)?;
         let found = cluster.run(options, chart);
         tally.add(&cluster.tally);
+        let events = cluster.tally.events;
+        let trace = cluster.trace;
         Ok(Verdict {
-            events: cluster.tally.events,
+            events,
             found,
-            rules: cluster.trace.verdict(),
+            rules: trace.verdict(),
+            record: trace.record,
         })
     }
 
     /// Returns a cluster that its first server starts with the first three servers as its members.
-    fn new(alloc: Global, seed: u64, options: &Options) -> Result<Self, Violation> {
-        let trace = Trace::new(alloc, SERVERS)?;
+    fn new(alloc: Global, seed: u64, options: &Options<'_>) -> Result<Self, Violation> {
+        let record = Record::new(alloc, options.lists(seed))?;
+        let trace = Trace::new(alloc, SERVERS, record)?;
         let members = first_members(alloc)?;
         let mut servers = Server::all(alloc, seed, options.fault)?;
         if let Some(first) = servers.first_mut() {
@@ -93,7 +100,7 @@ impl Cluster {
 
     /// Lets events happen and draws them. Then the network is mended, and the cluster has to
     /// converge.
-    fn run(&mut self, options: &Options, chart: &mut String) -> Result<(), Violation> {
+    fn run(&mut self, options: &Options<'_>, chart: &mut String) -> Result<(), Violation> {
         if options.chart > 0 {
             self.draw(chart)?;
         }

@@ -21,6 +21,7 @@ mod message;
 mod network;
 mod options;
 mod planted;
+mod record;
 mod safety;
 mod server;
 mod tally;
@@ -28,15 +29,16 @@ mod trace;
 mod types;
 mod view;
 
-use anyhow::{Result, ensure};
+use anyhow::{Context, Result, ensure};
 use cluster::Cluster;
-use options::Options;
-use std::env;
+use options::{Options, Recording};
+use record::Record;
+use std::{env, fs};
 use tally::{Number, Tally};
 
 /// Runs a cluster of each seed, and says what was found. Returns whether all were safe and have
 /// converged.
-fn run(rt: &HostRuntime, options: &Options) -> Result<bool> {
+fn run(rt: &HostRuntime, options: &Options<'_>) -> Result<bool> {
     let mut tally = Tally::default();
     let mut healthy = 0u64;
     let seeds = Number(options.seeds);
@@ -61,7 +63,7 @@ fn run(rt: &HostRuntime, options: &Options) -> Result<bool> {
 }
 
 /// Runs the cluster of a seed, and prints its chart and what is wrong. Returns whether nothing is.
-fn run_one(rt: &HostRuntime, options: &Options, seed: u64, tally: &mut Tally) -> Result<bool> {
+fn run_one(rt: &HostRuntime, options: &Options<'_>, seed: u64, tally: &mut Tally) -> Result<bool> {
     let mut chart = String::new(rt.alloc());
     let verdict = Cluster::simulate(rt.alloc(), seed, options, tally, &mut chart)?;
     print!(rt; "{chart}")?;
@@ -71,7 +73,26 @@ fn run_one(rt: &HostRuntime, options: &Options, seed: u64, tally: &mut Tally) ->
     if let Err(refused) = verdict.rules {
         println!(rt; "seed {seed}, rules: {refused}")?;
     }
+    write_record(rt, options.recording, &verdict.record)?;
     Ok(verdict.found.is_ok() && verdict.rules.is_ok())
+}
+
+/// Writes the lists of a record into their files.
+fn write_record(rt: &HostRuntime, recording: Recording<'_>, record: &Record) -> Result<()> {
+    for (place, list) in record.lists().iter().enumerate() {
+        let path = match recording {
+            Recording::Folder(folder) => format!(in rt.alloc();
+                "{folder}/{}.jsonl",
+                place.saturating_add(1)
+            )?,
+            Recording::File(path) => String::from_str(rt.alloc(), path)?,
+            Recording::Off => return Ok(()),
+        };
+        fs::write(rt, path.as_str(), list.as_str()).context(format_args!(
+            "the file '{path}' cannot be written"
+        ))?;
+    }
+    Ok(())
 }
 
 /// Prints the options, and the faults with what each means.

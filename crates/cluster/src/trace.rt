@@ -3,22 +3,12 @@
 //! `raft_safety` proves: if each recorded act was allowed by those before it, the cluster is safe.
 //! Its checker says whether they were. A log of the laws has no entry 0, which starts the cluster.
 
-use crate::types::CommittedLeaderId;
+use crate::record::{Act, Entry, Record, Term};
 use raft_safety::check::Refused;
 use raft_safety::checker::{Checker, LearnError, Violation};
-use raft_safety::entry::Entry as LawEntry;
 use raft_safety::event::Event as LawEvent;
 use raft_safety::memberships::Memberships;
 use std::alloc::{AllocError, Global};
-
-/// A term of the laws: the committed leader id of a leader.
-pub type Term = CommittedLeaderId;
-
-/// An entry: its term, and a number for what it holds.
-pub type Entry = LawEntry<Term, u64>;
-
-/// An act of a server.
-type Act = LawEvent<Term, u64, u64>;
 
 /// What a server has said or done that its state does not show.
 #[derive(Clone, Copy)]
@@ -80,11 +70,13 @@ pub struct Trace {
     servers: Vec<Recorded>,
     /// The entries that are committed.
     committed: Vec<Entry>,
+    /// The acts as lines, also the one that was refused.
+    pub record: Record,
 }
 
 impl Trace {
     /// Returns a trace in which nothing has happened. The first three servers are the first voters.
-    pub fn new(alloc: Global, servers: u64) -> Result<Self, Violation> {
+    pub fn new(alloc: Global, servers: u64, record: Record) -> Result<Self, Violation> {
         Ok(Trace {
             checker: Checker::new(alloc, first_voters(alloc)?)?,
             named: Vec::new(alloc),
@@ -92,6 +84,7 @@ impl Trace {
             refused: None,
             servers: nothing_recorded(alloc, servers)?,
             committed: Vec::new(alloc),
+            record,
         })
     }
 
@@ -102,6 +95,7 @@ impl Trace {
 
     /// Records what a membership's number means. An act with an entry of this number comes later.
     pub fn name(&mut self, number: u64, configs: Vec<Vec<u64>>) -> Result<(), AllocError> {
+        self.record.name(number, &configs)?;
         if let Err(LearnError::OutOfMemory) = self.checker.learn(number, configs) {
             return Err(AllocError);
         }
@@ -118,6 +112,7 @@ impl Trace {
     pub fn record(&mut self, view: &View, said: Said) -> Result<(), Violation> {
         let acts = self.acts(view, said)?;
         for act in &acts {
+            self.record.push(act)?;
             match self.checker.record(act) {
                 Ok(()) => self.allowed = self.allowed.saturating_add(1),
                 Err(violation) => {

@@ -1,8 +1,9 @@
 //! A server, as the laws of safety see it.
 
 use crate::message::Content;
+use crate::record::Entry;
 use crate::server::{Role, Server};
-use crate::trace::{Entry, Said, Trace, View};
+use crate::trace::{Said, Trace, View};
 use crate::types::{Members, Payload, end};
 use raft_handlers::Outcome;
 use raft_safety::checker::Violation;
