@@ -197,6 +197,9 @@ options() {
     compare "no option" 1 "" "Error: 'sed=1' is no option; \`--help\` lists the options" cluster sed=1
     compare "two records" 1 "" "Error: 'trace' and 'traces' exclude each other" cluster trace=a traces=b
     compare "no path" 1 "" "Error: 'trace=' has no path as its value" cluster trace=
+    compare "a record into a full device" 1 "" \
+        "$(printf "Error: the file '/dev/full' cannot be written\n\nCaused by:\n    No space left on device (os error 28)")" \
+        silent_cluster chart=0 events=10 trace=/dev/full
     compare "no fault" 1 "" "Error: 'fault=None' names no fault; \`--help\` lists the faults" \
         cluster fault=None
     compare "the greatest seed" 0 "" "" silent_cluster seed=18446744073709551615 seeds=1

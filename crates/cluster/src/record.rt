@@ -85,8 +85,8 @@ fn server_of(act: &Act) -> u64 {
     }
 }
 
-/// Returns a number for a term, by which terms are ordered: a term number, or a term and a node, of
-/// which there are less than sixteen.
+/// Returns a number below 2^64 for a term, by which terms are ordered. A rank is a term number, or a
+/// term times 2^64 and a node, of which there are less than sixteen.
 fn number_of(term: Term) -> u64 {
     let rank = term.rank();
     let (term, node) = (
