@@ -29,7 +29,7 @@ loop-entry-preserved g c =
                 λ q. absurd (true≢false (sym q
                 ∙ unreached_beyond g.ID.PartialEq.eq g.met.P.Ord.total g.V.ProgressPart.part_of
                 (g.QS.QuorumSet.has_quorum c.args.quorum_set.now) (g.met.QS.QuorumSet.superset c.args.quorum_set.now) c.args.voters.now
-                c.part-part.result c.unreached_above-unreached.result c.unreached_above-unreached.ensures
+                c.part-part.result c.upper_bound-unreached.result c.upper_bound-unreached.ensures
                 (sym w'.is_before.ensures ∙ w'.if-is_before.false)))
             | else-is_lt-via-else-is_lt w' ↦ λ q. ap is_lt (sym c.cmp.ensures) ∙ sym c.is_lt.ensures ∙ w'.if-is_lt.false
           ])
