@@ -5,7 +5,7 @@ ghost use Rattle.std.specs.List.{IsDistinct};
 ghost use Rattle.std.specs.Map.{keys_of};
 ghost use Rattle.raft_progress.specs.Inner.Recount.{IsGreatest, at_least, reaches};
 
-use super::conditions::is_before;
+use super::conditions::is_below_bound;
 use super::part::ProgressPart;
 use super::positions::FEW;
 use raft_members::quorum::QuorumSet;
@@ -90,15 +90,15 @@ fn least_above<ID: Copy + Ord, V: ProgressPart<P>, P: Copy + Ord>(
     let mut least: Option<P> = None;
     for entry in voters {
         let part = entry.1.part();
-        if granted.cmp(&part).is_lt() && is_before(part, least) {
+        if granted.cmp(&part).is_lt() && is_below_bound(part, least) {
             least = Some(part);
         }
     }
     least
 }
 
-/// Returns an upper bound of what `count` returns: the least part above `granted`, if there are many
-/// voters and no quorum has reached that part.
+/// Returns an upper bound of what `count` returns: the least part above `granted`, if there are
+/// many voters and no quorum has reached that part.
 #[inline(always)]
 fn upper_bound<ID: Copy + Ord, V: ProgressPart<P>, P: Copy + Ord, QS: QuorumSet<ID>>(
     quorum_set: &QS,
@@ -147,7 +147,7 @@ pub(crate) fn count<ID: Copy + Ord, V: ProgressPart<P>, P: Copy + Ord, QS: Quoru
     for entry in voters {
         let part = entry.1.part();
         if best.cmp(&part).is_lt()
-            && is_before(part, unreached)
+            && is_below_bound(part, unreached)
             && is_reached(quorum_set, voters, part, scratch)
         {
             best = part;

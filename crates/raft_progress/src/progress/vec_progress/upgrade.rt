@@ -15,7 +15,7 @@ ghost use Rattle.raft_progress.specs.progress.VecProgress.{view};
 
 use super::VecProgress;
 use crate::progress::Progress;
-use crate::progress::conditions::{is_at_least, is_before};
+use crate::progress::conditions::{is_at_least, is_below_bound};
 use crate::progress::part::ProgressPart;
 use crate::progress::sides::Sides;
 use crate::progress::stat::Stat;
@@ -128,7 +128,7 @@ impl<ID: Copy + Ord, V: ProgressPart<P>, P: Copy + Ord, QS: QuorumSet<ID>> VecPr
     {
         let mut least = so_far;
         for id in ids {
-            if self.is_value_below(part, id) && is_before(*id, least) {
+            if self.is_value_below(part, id) && is_below_bound(*id, least) {
                 least = Some(*id);
             }
         }
