@@ -28,8 +28,8 @@ impl<ID: Copy + Ord, V: ProgressPart<P>, P: Copy + Ord, QS: QuorumSet<ID>> VecPr
     P,
     QS,
 > {
-    /// Continues the counts of another progress.
-    pub(super) fn go_on_from(&mut self, stat: &Stat)
+    /// Takes the counts of another progress, and continues them.
+    pub(super) fn copy_counts(&mut self, stat: &Stat)
         ensures same { view self.new ≡ record (view self.old) { stat = stat.now } }
         ensures counts { (voters : ℕ) → CountsGoOn 0 voters stat.now stat.now }
     {
@@ -69,7 +69,7 @@ impl<ID: Copy + Ord, V: ProgressPart<P>, P: Copy + Ord, QS: QuorumSet<ID>> VecPr
         ensures counts { (voters : ℕ) →
             CountsGoOn 0 voters (view from.now).stat (view from.now).stat }
     {
-        self.go_on_from(&from.stat);
+        self.copy_counts(&from.stat);
         for entry in &from.entries {
             let value = entry.1.clone()?;
             self.inherit(&entry.0, value, sides);
