@@ -150,7 +150,7 @@ impl<C: Ord + Copy> ProgressEntryOf<C> {
     {
         // All tests come first, so that a refusal leaves the entry as it was.
         self.inflight.check_ack(request_id, matching)?;
-        if is_before(matching, self.matching) {
+        if log_id_below(matching, self.matching) {
             return Err(InflightError::MatchingRegress);
         }
         if !matching.has_next_index() {
@@ -218,7 +218,7 @@ impl<C: Ord + Copy> ProgressEntryOf<C> {
         }
         let last = log.last_log_id();
         let purge_upto = log.purge_upto();
-        ends_by(self.matching, self.searching_end)
+        is_below_index(self.matching, self.searching_end)
             && last.has_next_index()
             && self.searching_end <= last.next_index()
             && purge_upto.has_next_index()
@@ -310,7 +310,7 @@ impl<C: Ord + Copy> ProgressEntryOf<C> {
     pub fn can_start(&self) -> bool
         ensures { result ≡ nat_le (next_index self.now.matching) self.now.searching_end }
     {
-        ends_by(self.matching, self.searching_end)
+        is_below_index(self.matching, self.searching_end)
     }
 
     /// Returns the index at which the next probe starts, and the searching end. The first is
@@ -338,7 +338,7 @@ fn calc_mid(matched: u64, end: u64) -> u64
 }
 
 /// Whether a log id is absent or has an index below `end`.
-fn ends_by<C: Copy>(id: Option<LogIdOf<C>>, end: u64) -> bool
+fn is_below_index<C: Copy>(id: Option<LogIdOf<C>>, end: u64) -> bool
     ensures { result ≡ nat_le (next_index id) end }
 {
     id.index() < Some(end)
@@ -347,7 +347,7 @@ fn ends_by<C: Copy>(id: Option<LogIdOf<C>>, end: u64) -> bool
 /// Whether a log id is below another one.
 // The operator of an option is not inlined, and reads both from memory.
 #[inline(always)]
-fn is_before<C: Ord + Copy>(id: Option<LogIdOf<C>>, other: Option<LogIdOf<C>>) -> bool
+fn log_id_below<C: Ord + Copy>(id: Option<LogIdOf<C>>, other: Option<LogIdOf<C>>) -> bool
     ensures { result ≡ id_lt C.cmp id other }
 {
     match (id, other) {
@@ -361,7 +361,7 @@ impl<C: Ord + Copy> Validate for ProgressEntryOf<C> {
     ghost broken = { λ entry. first_false (entry_relations C.cmp entry) };
 
     fn validate(&self) -> Result<(), Invalid> {
-        if !ends_by(self.matching, self.searching_end) {
+        if !is_below_index(self.matching, self.searching_end) {
             return Err(Invalid::MatchingPastEnd);
         }
         match self.inflight {
@@ -370,7 +370,7 @@ impl<C: Ord + Copy> Validate for ProgressEntryOf<C> {
                 log_id_range.validate()?;
                 if !(self.matching <= log_id_range.prev) {
                     Err(Invalid::MatchingPastPrev)
-                } else if !ends_by(log_id_range.prev, self.searching_end) {
+                } else if !is_below_index(log_id_range.prev, self.searching_end) {
                     Err(Invalid::PrevPastEnd)
                 } else {
                     Ok(())

@@ -8,7 +8,7 @@ use raft_safety::event::Event;
 use raft_safety::memberships::Memberships;
 use raft_safety::merge::check_each;
 use raft_testing::allocations::{Allocation, is_free_on, is_swept};
-use raft_testing::memory::both;
+use raft_testing::memory::both_made;
 use std::alloc::{AllocError, Global};
 use std::io;
 use std::test::Fail;
@@ -108,7 +108,7 @@ fn is_allowed(allocation: Allocation, refused: Option<Violation>) -> Result<bool
 /// refused.
 fn check_all(allocation: Allocation, has_lists: bool) -> Result<bool, AllocError> {
     let alloc = allocation.alloc;
-    let (events, lists) = both(history(alloc), lists_of(alloc, TWO_LISTS))?;
+    let (events, lists) = both_made(history(alloc), lists_of(alloc, TWO_LISTS))?;
     let configs = three(alloc)?;
     allocation.refuse();
     let refused = if has_lists {
@@ -127,7 +127,7 @@ fn check_all(allocation: Allocation, has_lists: bool) -> Result<bool, AllocError
 /// out, the checker has to learn of it afterwards.
 fn learn(allocation: Allocation) -> Result<bool, AllocError> {
     let alloc = allocation.alloc;
-    let (mut checker, configs) = both(
+    let (mut checker, configs) = both_made(
         checked(alloc, ConfigsCount::WhenAppended, &history(alloc)?),
         Ok(Vec::new(alloc)),
     )?;
@@ -179,7 +179,7 @@ type Held = (Option<Memberships<u64, u64>>, Checked);
 fn held(alloc: Global) -> Result<Held, AllocError> {
     let events = history(alloc)?;
     let (before, _) = events.split_at(LAST.min(events.len()));
-    let (configs, checker) = both(
+    let (configs, checker) = both_made(
         three(alloc),
         checked(alloc, ConfigsCount::WhenAppended, before),
     )?;

@@ -2,7 +2,7 @@
 
 use crate::recorded::{events_of, is_rule, three};
 use raft_safety::check::check;
-use raft_testing::memory::both;
+use raft_testing::memory::both_made;
 use std::alloc::{AllocError, Global};
 use std::test::Fail;
 
@@ -12,8 +12,8 @@ const LED: &str = "campaigned 0 1; granted 1 1 0; wrote 0 1 1.10; appended 0 1 0
     acked 0 1 0 1; appended 4 1 0 0 1.10; campaigned 2 2;";
 
 /// Rows of events that follow `LED`, and the rule that the last one breaks, or `ok`. The vote of
-/// server 4 is late, and the candidate had no entry when it campaigned. At last a leader commits and
-/// proposes a membership, and a late vote is taken, and a config with one server more.
+/// server 4 is late, and the candidate had no entry when it campaigned. At last a leader commits
+/// and proposes a membership, and a late vote is taken, and a config with one server more.
 const AFTER_LED: &str = "\
 appended 1 1 0 0 1.11 = ForeignEntries
 campaigned 0 1 = CampaignedTwice
@@ -76,7 +76,7 @@ restarted 2 1; appended 2 4 2 1 1.11; acked 2 4 2 2 = ok";
 /// rule of this name.
 fn is_answered(alloc: Global, history: &str, row: &str) -> Result<bool, AllocError> {
     let (text, name) = row.split_once(" = ").unwrap_or((row, ""));
-    let (events, configs) = both(events_of(alloc, &[history, text]), three(alloc))?;
+    let (events, configs) = both_made(events_of(alloc, &[history, text]), three(alloc))?;
     match check(alloc, configs, &events) {
         Ok(()) => Ok(name == "ok"),
         Err(refused) => Ok(

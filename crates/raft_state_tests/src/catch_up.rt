@@ -1,13 +1,13 @@
 //! Followers that are caught up with a leader's state.
 
-use crate::over_kinds::assert_over_both;
+use crate::over_kinds::{Test, assert_over_both};
 use crate::support::followers::{Followers, caught_up, followers};
 use crate::support::rows::{Row, id};
 use crate::support::states::{NEW, State, VALID, log_of};
 use raft_base::LogStateReader;
 use raft_progress::{Progress, ProgressEntryOf};
 use raft_testing::allocations::{is_free, refuse_each};
-use raft_testing::memory::both;
+use raft_testing::memory::both_made;
 use raft_testing::plain_log::Numbered;
 use std::alloc::{AllocError, Global};
 use std::process::Abort;
@@ -94,7 +94,7 @@ pub fn catches_up_right<L: Drop, C: Numbered + Drop + 'static>(
     purged: &State<L, C>,
 ) -> Result<bool, AllocError> {
     let followers = followers(rt, alloc, &[4], 100);
-    let (log_ids, mut progress) = both(log_of(alloc, "1.0,1.99"), followers)?;
+    let (log_ids, mut progress) = both_made(log_of(alloc, "1.0,1.99"), followers)?;
     state.log_ids = log_ids;
     Ok(are_caught_up(rt, alloc, state, purged, &mut progress))
 }
@@ -104,6 +104,11 @@ pub fn catches_up_right<L: Drop, C: Numbered + Drop + 'static>(
 /// granted is none, then (1, 99).
 #[test]
 fn followers_are_caught_up(rt: HostRuntime) -> Result<(), Fail> {
-    assert_over_both(&rt, rt.alloc(), ["catches up", NEW, VALID, "1.0,1.99"])?;
+    assert_over_both(
+        &rt,
+        rt.alloc(),
+        Test::CatchesUpRight,
+        [NEW, VALID, "1.0,1.99"],
+    )?;
     Ok(())
 }

@@ -2,7 +2,7 @@
 //! of its memberships.
 
 use crate::laws::purge_to;
-use crate::over_kinds::assert_over_both;
+use crate::over_kinds::{Test, assert_over_both};
 use crate::support::asserts::assert_right;
 use crate::support::messages::{Entry, Snapshot};
 use crate::support::rows::{Row, id, row};
@@ -10,7 +10,7 @@ use crate::support::states::{NEW, State};
 use raft_base::{LeaderIdentity, LogIdOf, LogStateReader, VoteIn};
 use raft_members::{Membership, StoredMembershipOf};
 use raft_state::{EntryOf, EntryPayload, SnapshotMetaOf, is_key_list};
-use raft_testing::memory::holds;
+use raft_testing::memory::is_yes;
 use raft_testing::plain_log::Numbered;
 use raft_testing::words::{log_ids, number, words};
 use std::alloc::{AllocError, Global};
@@ -539,13 +539,13 @@ pub fn live<
     C: Numbered + Default + Drop + 'static,
 >(rt: &impl Abort, alloc: Global, state: &mut State<L, C>, plain: &mut Plain, life: &str) -> bool {
     let (title, calls) = life.split_once('\n').unwrap_or((life, ""));
-    let is_promised = holds(make_any(alloc, state, ["promise", "9", "committed"]));
+    let is_promised = is_yes(make_any(alloc, state, ["promise", "9", "committed"]));
     for call in calls.lines() {
         let [may, name, first, second, ..] = words(call);
         let made = make_any(alloc, state, [name, first, second]);
         let accepted = state.accepted().copied();
         let is_right = is_right(state, accepted, plain, made, [may, name, first, second]);
-        assert_right(rt, title, if holds(is_right) { None } else { Some(call) });
+        assert_right(rt, title, if is_yes(is_right) { None } else { Some(call) });
     }
     is_promised
 }
@@ -553,7 +553,7 @@ pub fn live<
 #[test]
 fn states_live_as_plain_lists_do(rt: HostRuntime) -> Result<(), Fail> {
     for life in LIVES.trim().split("\n\n") {
-        assert_over_both(&rt, rt.alloc(), ["lives", NEW, NEW, life])?;
+        assert_over_both(&rt, rt.alloc(), Test::Live, [NEW, NEW, life])?;
     }
     Ok(())
 }

@@ -21,5 +21,5 @@ abbrev pub majority_size : {K : Type 0} → List K → ℕ
 majority_size config = length config / 2 + 1
 
 -- the greatest size of the items, and 0 if there are none
-abbrev pub greatest : {X : Type 0} → (X → ℕ) → List X → ℕ
-greatest size items = fold (λ so_far item. max (size item) so_far) 0 items
+abbrev pub greatest_by : {X : Type 0} → (X → ℕ) → List X → ℕ
+greatest_by size items = fold (λ so_far item. max (size item) so_far) 0 items

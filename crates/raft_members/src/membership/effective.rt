@@ -9,7 +9,7 @@ ghost use Rattle.std.specs.Cmp.{partial_equiv_from_equiv};
 ghost use Rattle.raft_members.specs.membership.StoredLawful.{same_stored-equiv};
 ghost use Rattle.raft_members.specs.quorum.Majority.{is_voter_of, is_joint_majority};
 ghost use Rattle.raft_members.specs.quorum.MajorityLawful.{is_joint_majority-superset};
-ghost use Rattle.raft_members.specs.quorum.QuorumSize.{QuorumsHaveAtLeast, greatest, majority_size};
+ghost use Rattle.raft_members.specs.quorum.QuorumSize.{QuorumsHaveAtLeast, greatest_by, majority_size};
 ghost use Rattle.raft_members.specs.membership.Learners.{learners_of, learners_ahead, is_learner};
 ghost use Rattle.raft_members.specs.membership.Members.{node_at};
 ghost use Rattle.raft_members.specs.membership.Stored.{log_id_of, membership_of};
@@ -223,7 +223,7 @@ impl<C: Copy + Drop, NID: NodeId, N: Node> EffectiveMembershipOf<C, NID, N> {
     /// Returns a number of ids that each quorum has at least: the greatest of the majorities'
     /// sizes.
     fn least_size_of_quorums(&self) -> usize
-        ensures exact { result ≡ greatest majority_size (membership_of self.now).configs }
+        ensures exact { result ≡ greatest_by majority_size (membership_of self.now).configs }
         ensures least { QuorumsHaveAtLeast NID.eq
             (is_joint_majority NID.eq (membership_of self.now).configs) result }
     {
@@ -274,7 +274,7 @@ impl<C: Copy + Drop, NID: NodeId, N: Node> QuorumSet<NID> for EffectiveMembershi
     }
 
     fn least_quorum_size(&self) -> usize
-        ensures exact { result ≡ greatest majority_size (membership_of self.now).configs }
+        ensures exact { result ≡ greatest_by majority_size (membership_of self.now).configs }
         ensures least { QuorumsHaveAtLeast NID.eq
             (is_joint_majority NID.eq (membership_of self.now).configs) result }
     {

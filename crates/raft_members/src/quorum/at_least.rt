@@ -10,7 +10,7 @@ ghost use Rattle.raft_members.specs.quorum.Meeting.{RespectsEquality};
 ghost use Rattle.raft_members.specs.quorum.QuorumSize.{QuorumsHaveAtLeast, SizeDecides};
 
 use super::quorum_set::QuorumSet;
-use super::quorum_set_impl::{exceeds, has_in_order, sorted_copies};
+use super::quorum_set_impl::{has_in_order, has_more_than, sorted_copies};
 use std::alloc::{AllocError, Global};
 use std::fmt;
 
@@ -83,7 +83,7 @@ impl<ID: Copy + Ord> QuorumSet<ID> for AtLeast<ID> {
     #[inline(always)]
     fn is_quorum(&self, ids: &[ID]) -> bool {
         let voters: &[ID] = &self.ids;
-        exceeds(ids, self.need - 1, |id| has_in_order(voters, id))
+        has_more_than(ids, self.need - 1, |id| has_in_order(voters, id))
     }
 
     fn least_quorum_size(&self) -> usize

@@ -7,7 +7,7 @@ ghost use Rattle.std.specs.List.Sorted.{IsStrictlySortedBy};
 ghost use Rattle.std.specs.Option.{ForSome};
 ghost use Rattle.std.specs.Set.{is_member};
 ghost use Rattle.raft_members.specs.quorum.MajorityLawful.{list_all-weaker};
-ghost use Rattle.raft_members.specs.quorum.QuorumSize.{QuorumsHaveAtLeast, SizeDecides, greatest};
+ghost use Rattle.raft_members.specs.quorum.QuorumSize.{QuorumsHaveAtLeast, SizeDecides, greatest_by};
 
 use super::joint::Joint;
 use super::quorum_set::QuorumSet;
@@ -110,7 +110,7 @@ pub(crate) fn least_of_each<ID: Copy + Ord, QS: QuorumSet<ID>, F: Fn(&QS) -> usi
     requires { F.IsAlwaysCallable size_of }
     ensures exact { (size : QS → ℕ) →
         ((c : Bor QS) → AnyResult F.Fn size_of (c, tt) (λ n. n ≡ size c.now)) →
-        result ≡ greatest size children.now }
+        result ≡ greatest_by size children.now }
     ensures least { ((c : Bor QS) → AnyResult F.Fn size_of (c, tt)
         (QuorumsHaveAtLeast ID.eq (QS.has_quorum c.now))) →
         QuorumsHaveAtLeast ID.eq (λ s. list_all (λ c. QS.has_quorum c s) children.now) result }

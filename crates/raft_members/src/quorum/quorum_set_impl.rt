@@ -105,7 +105,7 @@ impl<ID: Copy + Ord> QuorumSet<ID> for BTreeSet<ID> {
     ghost superset = { λ c. is_majority-superset ID.eq c.keys };
 
     fn is_quorum(&self, ids: &[ID]) -> bool {
-        exceeds(ids, self.len() / 2, |id| self.contains(&id))
+        has_more_than(ids, self.len() / 2, |id| self.contains(&id))
     }
 
     fn least_quorum_size(&self) -> usize
@@ -172,7 +172,7 @@ fn has_majority<ID: Copy + Ord>(voters: &[ID], ids: &[ID]) -> bool
     if voters.len() >= 2 {
         return has_majority_at_ends::<ID, 2>(voters, ids);
     }
-    exceeds(ids, voters.len() / 2, |id| has_singly(voters, id))
+    has_more_than(ids, voters.len() / 2, |id| has_singly(voters, id))
 }
 
 /// Whether more than half of the voters are among the ids, for a list of at least `N` and at most
@@ -187,7 +187,7 @@ fn has_majority_at_ends<ID: Copy + Ord, const N: usize>(voters: &[ID], ids: &[ID
     let (Some(first), Some(last)) = (voters.first_chunk::<N>(), voters.last_chunk::<N>()) else {
         unreachable!()
     };
-    exceeds(
+    has_more_than(
         ids,
         voters.len() / 2,
         |id| -> bool
@@ -214,9 +214,9 @@ fn has_majority_of_many<ID: Copy + Ord>(voters: &[ID], ids: &[ID]) -> bool
         result ≡ is_majority ID.eq voters.now (is_member ID.eq ids.now) }
 {
     if are_many_in_order(voters) {
-        return exceeds(ids, voters.len() / 2, |id| has_in_order(voters, id));
+        return has_more_than(ids, voters.len() / 2, |id| has_in_order(voters, id));
     }
-    exceeds(ids, voters.len() / 2, |id| has(voters, id))
+    has_more_than(ids, voters.len() / 2, |id| has(voters, id))
 }
 
 /// Whether there are many voters, and no voter is below the one before it.
@@ -229,7 +229,7 @@ fn are_many_in_order<ID: Copy + Ord>(voters: &[ID]) -> bool
 /// Whether more than `limit` of the ids are voters. A repeated id counts each time. The function
 /// returns at the first id past the limit, and at once if there are too few ids.
 #[inline(always)]
-pub(super) fn exceeds<ID: Copy + Ord, F: Fn(ID) -> bool>(
+pub(super) fn has_more_than<ID: Copy + Ord, F: Fn(ID) -> bool>(
     ids: &[ID],
     limit: usize,
     is_voter: F,

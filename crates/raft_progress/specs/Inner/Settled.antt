@@ -12,8 +12,8 @@ use Rattle.raft_progress.specs.progress.Entries.{IsFalling}
 use Rattle.raft_progress.specs.progress.ProgressView.{ProgressView}
 use Rattle.raft_progress.specs.progress.Statistics.{count_after}
 
--- what no step changes
-pub record IsSameGroup {ID V P QS : Type 0} (old new : ProgressView ID V P QS) : Type 0 where
+-- what each step of an update keeps
+pub record KeptByStep {ID V P QS : Type 0} (old new : ProgressView ID V P QS) : Type 0 where
   pub quorum_set : new.quorum_set ≡ old.quorum_set
   pub voter_count : new.voter_count ≡ old.voter_count
   pub default_part : new.default_part ≡ old.default_part
@@ -22,13 +22,13 @@ pub record IsSameGroup {ID V P QS : Type 0} (old new : ProgressView ID V P QS) :
 module _ {ID V P QS : Type 0} (eq : ID → ID → Bool) (cmp : P → P → Ordering) (part : V → P)
     (has_quorum : QS → (ID → Bool) → Bool) where
   -- granted becomes the last part of the shortest prefix that was found
-  pub record IsScanned (old : ProgressView ID V P QS) (position : ℕ) (new : ProgressView ID V P QS) : Type 0 where
-    pub group : IsSameGroup old new
+  pub record FindsGranted (old : ProgressView ID V P QS) (position : ℕ) (new : ProgressView ID V P QS) : Type 0 where
+    pub kept : KeptByStep old new
     pub same_progress_entries : new.entries ≡ old.entries
     pub moves : new.stat.move_count ≡ old.stat.move_count
     pub found : Option ℕ
     pub tests : ℕ
-    pub scanned : IsShortestPrefix eq (has_quorum old.quorum_set) (take old.voter_count old.entries) position
+    pub shortest : IsShortestPrefix eq (has_quorum old.quorum_set) (take old.voter_count old.entries) position
         (prefix_len (exceeds cmp part old.granted) (take old.voter_count old.entries)) found tests
     pub counts : new.stat.is_quorum_count ≡ count_after old.stat.is_quorum_count tests
     pub stays : found ≡ None → new.granted ≡ old.granted
@@ -38,8 +38,8 @@ module _ {ID V P QS : Type 0} (eq : ID → ID → Bool) (cmp : P → P → Order
 
 module _ {ID V P QS : Type 0} (cmp : P → P → Ordering) (part : V → P) where
   -- the voter has moved up to a position, and granted is not recomputed yet
-  pub record IsRisen (old : ProgressView ID V P QS) (position to : ℕ) (new : ProgressView ID V P QS) : Type 0 where
-    pub group : IsSameGroup old new
+  pub record MovesUp (old : ProgressView ID V P QS) (position to : ℕ) (new : ProgressView ID V P QS) : Type 0 where
+    pub kept : KeptByStep old new
     pub granted : new.granted ≡ old.granted
     pub tests : new.stat.is_quorum_count ≡ old.stat.is_quorum_count
     pub moves : new.stat.move_count ≡ count_after old.stat.move_count 1
@@ -62,7 +62,7 @@ module _ {ID V P QS : Type 0} (eq : ID → ID → Bool) (cmp : P → P → Order
   abbrev pub CanCountOnceRisen : ProgressView ID V P QS → ℕ → P → Type 0
   CanCountOnceRisen old position after =
       position < old.voter_count → is_lt (cmp old.granted after) ≡ true
-      → (to : ℕ) (new : ProgressView ID V P QS) → IsRisen cmp part old position to new → CanCount new
+      → (to : ℕ) (new : ProgressView ID V P QS) → MovesUp cmp part old position to new → CanCount new
 
 module _ {ID V P QS : Type 0} (eq : ID → ID → Bool) (cmp : P → P → Ordering) (part : V → P)
     (has_quorum : QS → (ID → Bool) → Bool) where
@@ -71,8 +71,8 @@ module _ {ID V P QS : Type 0} (eq : ID → ID → Bool) (cmp : P → P → Order
       : Type 0 where
     pub middle : ProgressView ID V P QS
     pub to : ℕ
-    pub risen : IsRisen cmp part old position to middle
-    pub looked : may_grant ≡ true → IsScanned eq cmp part has_quorum middle to new
+    pub risen : MovesUp cmp part old position to middle
+    pub looked : may_grant ≡ true → FindsGranted eq cmp part has_quorum middle to new
     pub kept : may_grant ≡ false → new ≡ middle
 
 module _ {ID V P QS : Type 0} (eq : ID → ID → Bool) (cmp : P → P → Ordering) (part : V → P)

@@ -6,7 +6,7 @@ ghost use Rattle.std.specs.List.{IsDistinct, list_all, list_any};
 ghost use Rattle.std.specs.List.Sorted.{IsSorted};
 ghost use Rattle.std.specs.Option.{option_copied};
 ghost use Rattle.raft_progress.specs.Inner.Recount.{at_least};
-ghost use Rattle.raft_progress.specs.Inner.Conditions.{comes_before, ids_differ, is_ordered, never_rises};
+ghost use Rattle.raft_progress.specs.Inner.Conditions.{ids_differ, is_below_bound, is_ordered, never_rises};
 ghost use Rattle.raft_progress.specs.progress.Steps.{falls};
 
 use super::part::ProgressPart;
@@ -170,12 +170,12 @@ pub(crate) fn is_ordered<ID: Copy + Ord, V: ProgressPart<P>, P: Copy + Ord>(
     is_falling(voters, granted) && is_at_least(voters, least)
 }
 
-/// Whether an id or a part is below the least one so far, or there is none so far.
-pub(crate) fn is_before<T: Copy + Ord>(one: T, least: Option<T>) -> bool
-    ensures { result ≡ comes_before T.cmp one least }
+/// Whether an id or a part is below a bound, or there is no bound.
+pub(crate) fn is_below_bound<T: Copy + Ord>(one: T, bound: Option<T>) -> bool
+    ensures { result ≡ is_below_bound T.cmp one bound }
 {
-    match least {
-        Some(least) => one.cmp(&least).is_lt(),
+    match bound {
+        Some(bound) => one.cmp(&bound).is_lt(),
         None => true,
     }
 }

@@ -5,7 +5,7 @@ ghost use Rattle.std.specs.List.{IsDistinct};
 ghost use Rattle.std.specs.Map.{keys_of};
 ghost use Rattle.raft_progress.specs.Inner.Recount.{IsGreatest, at_least, reaches};
 
-use super::conditions::is_before;
+use super::conditions::is_below_bound;
 use super::part::ProgressPart;
 use super::positions::FEW;
 use raft_members::quorum::QuorumSet;
@@ -50,10 +50,11 @@ fn is_reached<ID: Copy + Ord, V: ProgressPart<P>, P: Copy + Ord, QS: QuorumSet<I
     quorum_set.is_quorum(&scratch[..n])
 }
 
-/// Returns the part of a voter that equals `granted`, if there are many voters, a quorum has
-/// reached that part, and it exceeds the default's part. Otherwise it returns the default's part.
+/// Returns a lower bound of what `count` returns: the part of a voter that equals `granted`, if
+/// there are many voters, a quorum has reached that part, and it exceeds the default's part.
+/// Otherwise it returns the default's part.
 #[inline(always)]
-fn reached_or_default<ID: Copy + Ord, V: ProgressPart<P>, P: Copy + Ord, QS: QuorumSet<ID>>(
+fn lower_bound<ID: Copy + Ord, V: ProgressPart<P>, P: Copy + Ord, QS: QuorumSet<ID>>(
     quorum_set: &QS,
     voters: &[(ID, V)],
     default_part: P,
@@ -89,17 +90,17 @@ fn least_above<ID: Copy + Ord, V: ProgressPart<P>, P: Copy + Ord>(
     let mut least: Option<P> = None;
     for entry in voters {
         let part = entry.1.part();
-        if granted.cmp(&part).is_lt() && is_before(part, least) {
+        if granted.cmp(&part).is_lt() && is_below_bound(part, least) {
             least = Some(part);
         }
     }
     least
 }
 
-/// Returns a part that no quorum has reached: the least one above `granted`, if there are many
-/// voters and it is such a part.
+/// Returns an upper bound of what `count` returns: the least part above `granted`, if there are
+/// many voters and no quorum has reached that part.
 #[inline(always)]
-fn unreached_above<ID: Copy + Ord, V: ProgressPart<P>, P: Copy + Ord, QS: QuorumSet<ID>>(
+fn upper_bound<ID: Copy + Ord, V: ProgressPart<P>, P: Copy + Ord, QS: QuorumSet<ID>>(
     quorum_set: &QS,
     voters: &[(ID, V)],
     granted: P,
@@ -141,12 +142,12 @@ pub(crate) fn count<ID: Copy + Ord, V: ProgressPart<P>, P: Copy + Ord, QS: Quoru
     ensures { IsGreatest ID.eq P.cmp V.part_of (QS.has_quorum quorum_set.now)
         voters.now voters.now default_part result }
 {
-    let mut best = reached_or_default(quorum_set, voters, default_part, granted, scratch);
-    let unreached = unreached_above(quorum_set, voters, granted, scratch);
+    let mut best = lower_bound(quorum_set, voters, default_part, granted, scratch);
+    let unreached = upper_bound(quorum_set, voters, granted, scratch);
     for entry in voters {
         let part = entry.1.part();
         if best.cmp(&part).is_lt()
-            && is_before(part, unreached)
+            && is_below_bound(part, unreached)
             && is_reached(quorum_set, voters, part, scratch)
         {
             best = part;

@@ -38,7 +38,7 @@ use Rattle.raft_progress.specs.progress.CountedValue.{AtMost}
 use Rattle.raft_progress.specs.progress.InOrder.{IsInOrder, AreEntriesInOrder}
 use Rattle.raft_progress.specs.Inner.Recount.{exceeds}
 use Rattle.raft_progress.specs.Inner.Rises.{IsShortestPrefix}
-use Rattle.raft_progress.specs.Inner.Settled.{IsPutInOrder, IsRaised, IsSameGroup, IsScanned}
+use Rattle.raft_progress.specs.Inner.Settled.{FindsGranted, IsPutInOrder, IsRaised, KeptByStep}
 use Rattle.raft_progress.specs.progress.ProgressState.{Writes}
 use Rattle.raft_progress.specs.progress.ProgressView.{ProgressView, state}
 use Rattle.raft_progress.specs.progress.Statistics.{count_after}
@@ -199,12 +199,12 @@ module _ {ID V P QS : Type 0} {eq : ID → ID → Bool} (laws : IsEquivalence eq
     entries_risen = subst (λ (es : List (ID × V)). m.entries ≡ entries_after_rise cmp part (eq id) [] es) wrote
         (is_risen o part (eq id) mid.entries i (m.entries) raised.to e0 raised.risen.rises first_at none_at)
 
-    written_m : (p : ProgressView ID V P QS) → p.entries ≡ m.entries → IsSameGroup m p
+    written_m : (p : ProgressView ID V P QS) → p.entries ≡ m.entries → KeptByStep m p
         → Writes eq (state_of eq mid.quorum_set ws mid.voter_count mid.default_part) id w (state eq p)
     written_m p s g = record {
-      quorum_set = g.quorum_set ∙ raised.risen.group.quorum_set;
+      quorum_set = g.quorum_set ∙ raised.risen.kept.quorum_set;
       is_voter = λ x. ap (λ es. is_member eq (take p.voter_count (keys_of es)) x) s
-          ∙ ap (λ k. is_member eq (take k (keys_of (m.entries))) x) (g.voter_count ∙ raised.risen.group.voter_count)
+          ∙ ap (λ k. is_member eq (take k (keys_of (m.entries))) x) (g.voter_count ∙ raised.risen.kept.voter_count)
           ∙ settles.voters_to laws o part has_quorum mid.quorum_set (superset mid.quorum_set) mid.default_part mid.voter_count ws
           mid.granted r id i e0 at is w up mid.entries next_is keys_same value_written was voter high
           (m.entries) raised.to raised.risen.rises x;
@@ -212,7 +212,7 @@ module _ {ID V P QS : Type 0} {eq : ID → ID → Bool} (laws : IsEquivalence eq
           ∙ settles.written_to laws o part has_quorum mid.quorum_set (superset mid.quorum_set) mid.default_part mid.voter_count ws
           mid.granted r id i e0 at is w up mid.entries next_is keys_same value_written was voter high
           (m.entries) raised.to raised.risen.rises x;
-      default_part = g.default_part ∙ raised.risen.group.default_part;
+      default_part = g.default_part ∙ raised.risen.kept.default_part;
     }
 
     moved_outcome : is_le (cmp before mid.granted) ≡ false → Outcome eq cmp part has_quorum mid ws id e0.1 w new
@@ -221,14 +221,14 @@ module _ {ID V P QS : Type 0} {eq : ID → ID → Bool} (laws : IsEquivalence eq
         record {
           ordered = order_alike eq cmp part has_quorum mid.quorum_set m.quorum_set
               (m.entries) mid.voter_count m.voter_count mid.default_part
-              m.default_part mid.granted m.granted raised.risen.group.quorum_set raised.risen.group.voter_count
-              raised.risen.group.default_part raised.risen.granted
+              m.default_part mid.granted m.granted raised.risen.kept.quorum_set raised.risen.kept.voter_count
+              raised.risen.kept.default_part raised.risen.granted
               (settles.order_moved laws o part has_quorum mid.quorum_set (superset mid.quorum_set) mid.default_part mid.voter_count ws
               mid.granted r id i e0 at is w up mid.entries next_is keys_same value_written was voter high (m.entries) raised.to
               raised.risen.rises (above_of t));
           written = written_m m refl record { quorum_set = refl; voter_count = refl; default_part = refl; updates = refl };
-          voter_count = raised.risen.group.voter_count;
-          updates = raised.risen.group.updates;
+          voter_count = raised.risen.kept.voter_count;
+          updates = raised.risen.kept.updates;
           monotone = subst (AtMost cmp mid.granted) (sym raised.risen.granted) (AtMost-refl o mid.granted);
           rises = λ h. (entries_risen, raised.risen.moves);
           stays = λ h. absurd (true≢false (sym rise ∙ h));
@@ -241,18 +241,18 @@ module _ {ID V P QS : Type 0} {eq : ID → ID → Bool} (laws : IsEquivalence eq
         }
 
     module _ (t : is_le (cmp before mid.granted) ≡ true) where
-      abbrev s : IsScanned eq cmp part has_quorum m raised.to new
+      abbrev s : FindsGranted eq cmp part has_quorum m raised.to new
       s = raised.looked t
 
       scan : IsShortestPrefix eq (has_quorum mid.quorum_set) (take mid.voter_count (m.entries)) raised.to
           (prefix_len (exceeds cmp part mid.granted) (take mid.voter_count (m.entries))) s.found s.tests
       scan =
           subst (λ (x : QS). IsShortestPrefix eq (has_quorum x) (take mid.voter_count (m.entries)) raised.to
-          (prefix_len (exceeds cmp part mid.granted) (take mid.voter_count (m.entries))) s.found s.tests) raised.risen.group.quorum_set
+          (prefix_len (exceeds cmp part mid.granted) (take mid.voter_count (m.entries))) s.found s.tests) raised.risen.kept.quorum_set
           (subst (λ (x : ℕ). IsShortestPrefix eq (has_quorum m.quorum_set) (take x (m.entries)) raised.to
-          (prefix_len (exceeds cmp part mid.granted) (take x (m.entries))) s.found s.tests) raised.risen.group.voter_count
+          (prefix_len (exceeds cmp part mid.granted) (take x (m.entries))) s.found s.tests) raised.risen.kept.voter_count
           (subst (λ (x : P). IsShortestPrefix eq (has_quorum m.quorum_set) (take m.voter_count (m.entries)) raised.to
-          (prefix_len (exceeds cmp part x) (take m.voter_count (m.entries))) s.found s.tests) raised.risen.granted s.scanned))
+          (prefix_len (exceeds cmp part x) (take m.voter_count (m.entries))) s.found s.tests) raised.risen.granted s.shortest))
 
       ordered_new : (found : Option ℕ) → s.found ≡ found
           → AreEntriesInOrder eq cmp part has_quorum mid.quorum_set (m.entries) mid.voter_count mid.default_part new.granted
@@ -269,15 +269,15 @@ module _ {ID V P QS : Type 0} {eq : ID → ID → Bool} (laws : IsEquivalence eq
           (settles.order_found laws o part has_quorum mid.quorum_set (superset mid.quorum_set) mid.default_part mid.voter_count ws
           mid.granted r id i e0 at is w up mid.entries next_is keys_same value_written was voter high (m.entries) raised.to
           raised.risen.rises s.found s.tests scan k f.0 some
-          (f.1 ∙ ap (λ x. get_or (take x (m.entries)) (k - 1) f.0) raised.risen.group.voter_count))
+          (f.1 ∙ ap (λ x. get_or (take x (m.entries)) (k - 1) f.0) raised.risen.kept.voter_count))
 
       never_less : (found : Option ℕ) → s.found ≡ found → AtMost cmp mid.granted new.granted
       never_less None none = subst (AtMost cmp mid.granted) (sym (s.stays none ∙ raised.risen.granted)) (AtMost-refl o mid.granted)
       never_less (Some k) some =
           let f = s.rises k some in
           let voters = take m.voter_count m.entries in
-          let low = s.scanned.above k some in
-          let far = s.scanned.within k some in
+          let low = s.shortest.above k some in
+          let far = s.shortest.within k some in
           let over : is_lt (cmp m.granted (part (get_or voters (k - 1) f.0).1)) ≡ true =
           prefix_len_passes (exceeds cmp part m.granted) voters (k - 1) f.0 (omega arith) in
           subst (AtMost cmp mid.granted) (sym f.2)
@@ -295,13 +295,13 @@ module _ {ID V P QS : Type 0} {eq : ID → ID → Bool} (laws : IsEquivalence eq
       scanned_outcome = record {
         ordered = order_alike eq cmp part has_quorum mid.quorum_set new.quorum_set new.entries mid.voter_count new.voter_count
             mid.default_part
-            new.default_part new.granted new.granted (s.group.quorum_set ∙ raised.risen.group.quorum_set)
-            (s.group.voter_count ∙ raised.risen.group.voter_count) (s.group.default_part ∙ raised.risen.group.default_part) refl
+            new.default_part new.granted new.granted (s.kept.quorum_set ∙ raised.risen.kept.quorum_set)
+            (s.kept.voter_count ∙ raised.risen.kept.voter_count) (s.kept.default_part ∙ raised.risen.kept.default_part) refl
             (subst (λ (es : List (ID × V)). AreEntriesInOrder eq cmp part has_quorum mid.quorum_set es mid.voter_count mid.default_part
             new.granted) (sym s.same_progress_entries) (ordered_new s.found refl));
-        written = written_m new s.same_progress_entries s.group;
-        voter_count = s.group.voter_count ∙ raised.risen.group.voter_count;
-        updates = s.group.updates ∙ raised.risen.group.updates;
+        written = written_m new s.same_progress_entries s.kept;
+        voter_count = s.kept.voter_count ∙ raised.risen.kept.voter_count;
+        updates = s.kept.updates ∙ raised.risen.kept.updates;
         monotone = never_less s.found refl;
         rises = λ h. (s.same_progress_entries ∙ entries_risen, s.moves ∙ raised.risen.moves);
         stays = λ h. absurd (true≢false (sym rise ∙ h));

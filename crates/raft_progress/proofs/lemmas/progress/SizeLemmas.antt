@@ -34,7 +34,7 @@ use Rattle.std.proofs.lemmas.List.{length-take}
 use Rattle.std.proofs.lemmas.Map.Entries.{length-keys_of}
 use Rattle.raft_members.specs.quorum.QuorumSize.{SizeDecides}
 use Rattle.raft_progress.specs.Inner.Recount.{exceeds, prefix_test}
-use Rattle.raft_progress.specs.Inner.Settled.{CanCount, CanCountOnceRisen, IsScanned}
+use Rattle.raft_progress.specs.Inner.Settled.{CanCount, CanCountOnceRisen, FindsGranted}
 use Rattle.raft_progress.specs.progress.CountedValue.{AtMost}
 use Rattle.raft_progress.specs.progress.Entries.{IsFalling}
 use Rattle.raft_progress.specs.progress.InOrder.{AreEntriesInOrder}
@@ -91,14 +91,14 @@ module _ {ID V P QS : Type 0} (eq : ID → ID → Bool) {cmp : P → P → Order
   -- no prefix that is long enough has only parts that exceed granted
   pub none_granted : prefix_len (exceeds cmp part old.granted) voters ≤ last → 0 < length voters → (tests n : ℕ) → tests ≤ 1
       → n ≡ count_after old.stat.is_quorum_count tests
-      → IsScanned eq cmp part has_quorum old position (record old { stat = record old.stat { is_quorum_count = n } })
+      → FindsGranted eq cmp part has_quorum old position (record old { stat = record old.stat { is_quorum_count = n } })
   none_granted ends some tests n one counted = record {
-    group = record { quorum_set = refl; voter_count = refl; default_part = refl; updates = refl };
+    kept = record { quorum_set = refl; voter_count = refl; default_part = refl; updates = refl };
     same_progress_entries = refl;
     moves = refl;
     found = None;
     tests = tests;
-    scanned = record {
+    shortest = record {
       none = λ e k l m. fails k (omega arith);
       above = λ k e. cc;
       within = λ k e. cc;
@@ -123,15 +123,15 @@ module _ {ID V P QS : Type 0} (eq : ID → ID → Bool) {cmp : P → P → Order
     passes = let n = length-take (last + 1) voters in let d = decided (last + 1) in grind (arith, nat_tests)
 
     pub last_granted : (g : P) → g ≡ part e.1 → (n : ℕ) → n ≡ count_after old.stat.is_quorum_count 1
-        → IsScanned eq cmp part has_quorum old position
+        → FindsGranted eq cmp part has_quorum old position
         (record old { granted = g; stat = record old.stat { is_quorum_count = n } })
     last_granted g granted n counted = record {
-      group = record { quorum_set = refl; voter_count = refl; default_part = refl; updates = refl };
+      kept = record { quorum_set = refl; voter_count = refl; default_part = refl; updates = refl };
       same_progress_entries = refl;
       moves = refl;
       found = Some (last + 1);
       tests = 1;
-      scanned = record {
+      shortest = record {
         none = λ e. cc;
         above = λ k e. let here : last + 1 ≡ k = cc in omega arith;
         within = λ k e. let here : last + 1 ≡ k = cc in let far = long in omega arith;
@@ -162,14 +162,14 @@ module _ {ID V P QS : Type 0} {eq : ID → ID → Bool} (laws : IsEquivalence eq
   pub counts_once_risen : CanCountOnceRisen eq cmp part is_voter mid i (part w)
   counts_once_risen voter high to new risen = record {
     voters = λ x m.
-        subst (λ (qs : QS). is_voter qs x ≡ true) (sym risen.group.quorum_set)
+        subst (λ (qs : QS). is_voter qs x ≡ true) (sym risen.kept.quorum_set)
         (of_set x (sym (settles.voters_to laws o part has_quorum mid.quorum_set (superset mid.quorum_set) mid.default_part mid.voter_count
         ws mid.granted r id i e0 at is w up mid.entries next_is (same_keys laws ws mid.entries id e0.1 w was wrote)
         (lookup_written laws ws mid.entries id e0.1 w was wrote) was voter high new.entries to risen.rises x)
-        ∙ subst (λ (n : ℕ). is_member eq (take n (keys_of new.entries)) x ≡ true) risen.group.voter_count m));
+        ∙ subst (λ (n : ℕ). is_member eq (take n (keys_of new.entries)) x ≡ true) risen.kept.voter_count m));
     falling =
         subst (λ (g : P). IsFalling cmp part g (take new.voter_count new.entries)) (sym risen.granted)
-        (subst (λ (n : ℕ). IsFalling cmp part mid.granted (take n new.entries)) (sym risen.group.voter_count)
+        (subst (λ (n : ℕ). IsFalling cmp part mid.granted (take n new.entries)) (sym risen.kept.voter_count)
         (settles.falling_to laws o part has_quorum mid.quorum_set (superset mid.quorum_set) mid.default_part mid.voter_count ws mid.granted
         r id i e0 at is w up mid.entries next_is (same_keys laws ws mid.entries id e0.1 w was wrote)
         (lookup_written laws ws mid.entries id e0.1 w was wrote) was voter high new.entries to risen.rises));

@@ -7,7 +7,7 @@ ghost use Rattle.std.specs.Map.{keys_of};
 ghost use Rattle.std.specs.Option.{ForSome};
 ghost use Rattle.std.specs.Ordering.{is_lt};
 ghost use Rattle.raft_progress.specs.Inner.Sides.{AreSidesOf};
-ghost use Rattle.raft_progress.specs.Inner.Settled.{CanCount, CanCountOnceRisen, HasVotersOfSet, IsPutInOrder, IsRisen, IsScanned};
+ghost use Rattle.raft_progress.specs.Inner.Settled.{CanCount, CanCountOnceRisen, FindsGranted, HasVotersOfSet, IsPutInOrder, MovesUp};
 ghost use Rattle.raft_progress.specs.Inner.ViewAnswers.{IsViewWrite};
 ghost use Rattle.raft_progress.specs.progress.InOrder.{IsInOrder};
 ghost use Rattle.raft_progress.specs.progress.Lends.{Leaves};
@@ -143,7 +143,7 @@ impl<ID: Copy + Ord, V: ProgressPart<P>, P: Copy + Ord, QS: QuorumSet<ID>> VecPr
     #[inline(always)]
     fn move_voter_up(&mut self, position: usize) -> usize
         requires { position < (view self.old).voter_count }
-        ensures risen { IsRisen P.cmp V.part_of (view self.old) position result (view self.new) }
+        ensures risen { MovesUp P.cmp V.part_of (view self.old) position result (view self.new) }
         ensures within { result ≤ position }
         ensures stale { self.new.positions.stale ≡ self.old.positions.stale }
         ensures ids { keys_of self.new.positions.sorted.items
@@ -168,7 +168,7 @@ impl<ID: Copy + Ord, V: ProgressPart<P>, P: Copy + Ord, QS: QuorumSet<ID>> VecPr
         requires sides { ForSome sides (λ s. self.old.positions.stale ≡ false →
             AreSidesOf ID.eq (QS.has_quorum (view self.old).quorum_set)
             (keys_of self.old.positions.sorted.items) s.now) }
-        ensures { IsScanned ID.eq P.cmp V.part_of QS.has_quorum
+        ensures { FindsGranted ID.eq P.cmp V.part_of QS.has_quorum
             (view self.old) position (view self.new) }
     {
         if counts {
@@ -195,7 +195,7 @@ impl<ID: Copy + Ord, V: ProgressPart<P>, P: Copy + Ord, QS: QuorumSet<ID>> VecPr
         requires can_count { CanCount ID.eq P.cmp V.part_of QS.is_voter (view self.old) }
         requires decides { SizeDecides ID.eq (QS.has_quorum (view self.old).quorum_set)
             (QS.is_voter (view self.old).quorum_set) size }
-        ensures { IsScanned ID.eq P.cmp V.part_of QS.has_quorum
+        ensures { FindsGranted ID.eq P.cmp V.part_of QS.has_quorum
             (view self.old) position (view self.new) }
     {
         // This read is for the proof: it shows that the count fits a u64.
@@ -221,7 +221,7 @@ impl<ID: Copy + Ord, V: ProgressPart<P>, P: Copy + Ord, QS: QuorumSet<ID>> VecPr
         requires fresh { self.old.positions.stale ≡ false }
         requires sides { AreSidesOf ID.eq (QS.has_quorum (view self.old).quorum_set)
             (keys_of self.old.positions.sorted.items) sides.now }
-        ensures { IsScanned ID.eq P.cmp V.part_of QS.has_quorum
+        ensures { FindsGranted ID.eq P.cmp V.part_of QS.has_quorum
             (view self.old) position (view self.new) }
     {
         // This read is for the proof: it shows that the count fits a u64.
@@ -253,7 +253,7 @@ impl<ID: Copy + Ord, V: ProgressPart<P>, P: Copy + Ord, QS: QuorumSet<ID>> VecPr
     fn search_granted(&mut self, position: usize)
         requires within { position < (view self.old).voter_count }
         requires distinct { IsDistinct ID.eq (keys_of (view self.old).entries) }
-        ensures { IsScanned ID.eq P.cmp V.part_of QS.has_quorum
+        ensures { FindsGranted ID.eq P.cmp V.part_of QS.has_quorum
             (view self.old) position (view self.new) }
     {
         // This read is for the proof: it shows that the count fits a u64.
@@ -283,7 +283,7 @@ impl<ID: Copy + Ord, V: ProgressPart<P>, P: Copy + Ord, QS: QuorumSet<ID>> VecPr
         requires only { (view self.old).voter_count ≡ 1 }
         requires leads { (e : ID × V) → slice_get (view self.old).entries 0 ≡ Some e →
             is_lt (P.cmp (view self.old).granted (V.part_of e.1)) ≡ true }
-        ensures { IsScanned ID.eq P.cmp V.part_of QS.has_quorum
+        ensures { FindsGranted ID.eq P.cmp V.part_of QS.has_quorum
             (view self.old) 0 (view self.new) }
     {
         let only = &self.entries[0];
@@ -300,7 +300,7 @@ impl<ID: Copy + Ord, V: ProgressPart<P>, P: Copy + Ord, QS: QuorumSet<ID>> VecPr
     #[inline(never)]
     fn test_prefixes(&mut self, position: usize)
         requires distinct { IsDistinct ID.eq (keys_of (view self.old).entries) }
-        ensures { IsScanned ID.eq P.cmp V.part_of QS.has_quorum
+        ensures { FindsGranted ID.eq P.cmp V.part_of QS.has_quorum
             (view self.old) position (view self.new) }
     {
         let voters = &self.entries[..self.voter_count];

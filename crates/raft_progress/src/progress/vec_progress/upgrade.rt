@@ -15,7 +15,7 @@ ghost use Rattle.raft_progress.specs.progress.VecProgress.{view};
 
 use super::VecProgress;
 use crate::progress::Progress;
-use crate::progress::conditions::{is_at_least, is_before};
+use crate::progress::conditions::{is_at_least, is_below_bound};
 use crate::progress::part::ProgressPart;
 use crate::progress::sides::Sides;
 use crate::progress::stat::Stat;
@@ -28,8 +28,8 @@ impl<ID: Copy + Ord, V: ProgressPart<P>, P: Copy + Ord, QS: QuorumSet<ID>> VecPr
     P,
     QS,
 > {
-    /// Continues the counts of another progress.
-    pub(super) fn go_on_from(&mut self, stat: &Stat)
+    /// Takes the counts of another progress, and continues them.
+    pub(super) fn copy_counts(&mut self, stat: &Stat)
         ensures same { view self.new ≡ record (view self.old) { stat = stat.now } }
         ensures counts { (voters : ℕ) → CountsGoOn 0 voters stat.now stat.now }
     {
@@ -46,8 +46,8 @@ impl<ID: Copy + Ord, V: ProgressPart<P>, P: Copy + Ord, QS: QuorumSet<ID>> VecPr
     }
 
     /// Takes over the counts of another progress, and its values one after another, or returns an
-    /// allocation error. An id that is unknown here is passed over. `sides` are those of two configs
-    /// whose majorities are the quorums, if they are known.
+    /// allocation error. An id that is unknown here is passed over. `sides` are those of two
+    /// configs whose majorities are the quorums, if they are known.
     pub(crate) fn take_over(&mut self, from: &Self, sides: Option<&Sides>) -> Result<(), AllocError>
     where
         V: Clone,
@@ -69,7 +69,7 @@ impl<ID: Copy + Ord, V: ProgressPart<P>, P: Copy + Ord, QS: QuorumSet<ID>> VecPr
         ensures counts { (voters : ℕ) →
             CountsGoOn 0 voters (view from.now).stat (view from.now).stat }
     {
-        self.go_on_from(&from.stat);
+        self.copy_counts(&from.stat);
         for entry in &from.entries {
             let value = entry.1.clone()?;
             self.inherit(&entry.0, value, sides);
@@ -128,7 +128,7 @@ impl<ID: Copy + Ord, V: ProgressPart<P>, P: Copy + Ord, QS: QuorumSet<ID>> VecPr
     {
         let mut least = so_far;
         for id in ids {
-            if self.is_value_below(part, id) && is_before(*id, least) {
+            if self.is_value_below(part, id) && is_below_bound(*id, least) {
                 least = Some(*id);
             }
         }

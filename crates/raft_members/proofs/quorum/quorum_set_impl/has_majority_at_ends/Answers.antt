@@ -7,7 +7,7 @@ use Rattle.raft_members.proofs.quorum.quorum_set_impl.has_majority_at_ends.Goals
 pub returns : goal.returns
 returns g c d =
     let is : g.row.ID.Denot → g.row.ID.Denot → Bool = λ x y. g.ID.PartialEq.eq y x in
-    c.exceeds.ensures (λ x. list_any (is x) c.args.voters.now)
+    c.has_more_than.ensures (λ x. list_any (is x) c.args.voters.now)
     (λ x b e.
     let at_ends : b ≡ (list_any (is x) c.in-Some-Some.first.now || list_any (is x) c.in-Some-Some.last.now) = search rules in
     at_ends

@@ -12,13 +12,13 @@ returns-in_err-check_ack-clause-table g c =
     c.in_err-check_ack.ensures in
     rw table (search rules)
 
-pub returns-then-is_before-clause-table : goal.returns-then-is_before-clause-table
-returns-then-is_before-clause-table g c =
+pub returns-then-log_id_below-clause-table : goal.returns-then-log_id_below-clause-table
+returns-then-log_id_below-clause-table g c =
     let entry = c.args.self.now in
     let table = table_of_taken (inflight_after_ack g.C.Ord.cmp entry.inflight c.args.request_id c.args.matching)
     c.in_ok-check_ack.ensures in
     let below : id_lt g.C.Ord.cmp c.args.matching entry.matching ≡ true =
-    sym c.is_before.ensures ∙ c.if-is_before.true in
+    sym c.log_id_below.ensures ∙ c.if-log_id_below.true in
     rw (table.1, below) (refl, refl)
 
 pub returns-then-not-has_next_index-clause-table : goal.returns-then-not-has_next_index-clause-table
@@ -27,7 +27,7 @@ returns-then-not-has_next_index-clause-table g c =
     let table = table_of_taken (inflight_after_ack g.C.Ord.cmp entry.inflight c.args.request_id c.args.matching)
     c.in_ok-check_ack.ensures in
     let above : id_lt g.C.Ord.cmp c.args.matching entry.matching ≡ false =
-    sym c.is_before.ensures ∙ c.if-is_before.false in
+    sym c.log_id_below.ensures ∙ c.if-log_id_below.false in
     let large : nat_lt (next_index c.args.matching) (2 ^ 64) ≡ false = sym c.has_next_index.ensures ∙ c.if-not-has_next_index.true in
     rw (table.1, above, large) (refl, refl)
 
@@ -39,7 +39,7 @@ returns-clause-table g c =
     let table : inflight_after_ack g.C.Ord.cmp entry.inflight c.args.request_id c.args.matching ≡ Ok c.take_ack.new.self =
     taken.1 ∙ ap Ok (sym (c.take_ack.ensures c.args.request_id taken.0 taken.1)) in
     let above : id_lt g.C.Ord.cmp c.args.matching entry.matching ≡ false =
-    sym c.is_before.ensures ∙ c.if-is_before.false in
+    sym c.log_id_below.ensures ∙ c.if-log_id_below.false in
     let fits : nat_lt (next_index c.args.matching) (2 ^ 64) ≡ true = sym c.has_next_index.ensures ∙ c.if-not-has_next_index.false in
     let end : c.max-self.result ≡ max entry.searching_end (next_index c.args.matching) = rw c.next_index.ensures at c.max-self.ensures in
     rw (table, above, fits, end) refl

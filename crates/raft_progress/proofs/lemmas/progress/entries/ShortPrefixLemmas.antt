@@ -12,7 +12,7 @@ use Rattle.std.proofs.lemmas.Map.Entries.{length-keys_of}
 use Rattle.raft_members.specs.quorum.QuorumSize.{QuorumsHaveAtLeast}
 use Rattle.raft_progress.specs.Inner.Recount.{exceeds, prefix_test}
 use Rattle.raft_progress.specs.Inner.Rises.{IsShortestPrefix}
-use Rattle.raft_progress.specs.Inner.Settled.{IsSameGroup, IsScanned}
+use Rattle.raft_progress.specs.Inner.Settled.{FindsGranted, KeptByStep}
 use Rattle.raft_progress.specs.progress.ProgressView.{ProgressView}
 use Rattle.raft_progress.specs.progress.Statistics.{count_after}
 use Rattle.raft_progress.proofs.lemmas.progress.UpdateLemmas.{IsDistinct-voters}
@@ -51,23 +51,23 @@ module _ {ID V P QS : Type 0} {eq : ID → ID → Bool} (laws : IsEquivalence eq
           let h = least (keys_of (take k voters)) (IsDistinct-voters laws k voters distinct) e in
           absurd (omega (arith, length-keys_of (take k voters), length_take_le voters k))
 
-  -- a scan past `low` has the same result as one past the position
-  pub scanned_from : (new : ProgressView ID V P QS) → IsScanned eq cmp part has_quorum old low new
-      → IsScanned eq cmp part has_quorum old position new
-  scanned_from new s = record {
-    group = s.group;
+  -- what is granted past `low` is granted past the position
+  pub finds_granted_past : (new : ProgressView ID V P QS) → FindsGranted eq cmp part has_quorum old low new
+      → FindsGranted eq cmp part has_quorum old position new
+  finds_granted_past new s = record {
+    kept = s.kept;
     same_progress_entries = s.same_progress_entries;
     moves = s.moves;
     found = s.found;
     tests = s.tests;
-    scanned = record {
-      none = λ e k l m. by k l (s.scanned.none e k) (λ n. m) (ltb low k) refl;
-      above = λ k e. let h = s.scanned.above k e in omega arith;
-      within = s.scanned.within;
-      holds = s.scanned.holds;
-      least = λ k l e m n. by l m (s.scanned.least k l e) (λ h. n) (ltb low l) refl;
-      tested = s.scanned.tested;
-      few = s.scanned.few;
+    shortest = record {
+      none = λ e k l m. by k l (s.shortest.none e k) (λ n. m) (ltb low k) refl;
+      above = λ k e. let h = s.shortest.above k e in omega arith;
+      within = s.shortest.within;
+      holds = s.shortest.holds;
+      least = λ k l e m n. by l m (s.shortest.least k l e) (λ h. n) (ltb low l) refl;
+      tested = s.shortest.tested;
+      few = s.shortest.few;
     };
     counts = s.counts;
     stays = s.stays;
@@ -82,15 +82,16 @@ module _ {ID V P QS : Type 0} {eq : ID → ID → Bool} (laws : IsEquivalence eq
       by k l h q false t = let m = ltb-false low k t in short_fails k (omega arith)
 
   -- if no prefix past `low` has only parts that exceed granted, none past the position is a quorum
-  pub not_scanned : prefix_len (exceeds cmp part old.granted) (take old.voter_count old.entries) ≤ low → old.stat.is_quorum_count < 2 ^ 64
-      → IsScanned eq cmp part has_quorum old position old
-  not_scanned ends fits = record {
-    group = record { quorum_set = refl; voter_count = refl; default_part = refl; updates = refl };
+  pub finds_no_granted : prefix_len (exceeds cmp part old.granted) (take old.voter_count old.entries) ≤ low
+      → old.stat.is_quorum_count < 2 ^ 64
+      → FindsGranted eq cmp part has_quorum old position old
+  finds_no_granted ends fits = record {
+    kept = record { quorum_set = refl; voter_count = refl; default_part = refl; updates = refl };
     same_progress_entries = refl;
     moves = refl;
     found = None;
     tests = 0;
-    scanned = record {
+    shortest = record {
       none = λ e k l m. short_fails k (omega arith);
       above = λ k e. cc;
       within = λ k e. cc;
@@ -104,7 +105,7 @@ module _ {ID V P QS : Type 0} {eq : ID → ID → Bool} (laws : IsEquivalence eq
     rises = λ k e. cc;
   }
 
--- the scan of the only voter is one test
+-- granted is found by one test of the only voter
 module _ {ID V P QS : Type 0} (eq : ID → ID → Bool) (cmp : P → P → Ordering) (part : V → P) (has_quorum : QS → (ID → Bool) → Bool)
     (old new : ProgressView ID V P QS) (only : old.voter_count ≡ 1) (e : ID × V) (at : slice_get old.entries 0 ≡ Some e)
     (leads : is_lt (cmp old.granted (part e.1)) ≡ true) (passed : Bool)
@@ -127,16 +128,16 @@ module _ {ID V P QS : Type 0} (eq : ID → ID → Bool) (cmp : P → P → Order
       (then_some {T = ℕ} passed 1) 1) (sym voters_are)
       (rw leads (single_prefix eq (has_quorum old.quorum_set) (e ∷ []) 0 1 refl (omega arith) passed (tells alone)))
 
-  pub only_scanned : IsSameGroup old new → new.entries ≡ old.entries → new.stat.move_count ≡ old.stat.move_count
+  pub only_voter_granted : KeptByStep old new → new.entries ≡ old.entries → new.stat.move_count ≡ old.stat.move_count
       → new.stat.is_quorum_count ≡ count_after old.stat.is_quorum_count 1 → (passed ≡ false → new.granted ≡ old.granted)
-      → (passed ≡ true → new.granted ≡ part e.1) → IsScanned eq cmp part has_quorum old 0 new
-  only_scanned group entries moves counts stays rises = record {
-    group = group;
+      → (passed ≡ true → new.granted ≡ part e.1) → FindsGranted eq cmp part has_quorum old 0 new
+  only_voter_granted kept entries moves counts stays rises = record {
+    kept = kept;
     same_progress_entries = entries;
     moves = moves;
     found = then_some {T = ℕ} passed 1;
     tests = 1;
-    scanned = tested;
+    shortest = tested;
     counts = counts;
     stays = λ none. by_none passed stays none;
     rises = λ k some. let h = by_some passed rises k some in (

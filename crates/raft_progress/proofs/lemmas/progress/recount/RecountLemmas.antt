@@ -29,7 +29,7 @@ use Rattle.std.specs.Cmp.{IsTotalOrder}
 use Rattle.std.proofs.Common.{arith, sym, ap, refl, ◌∙◌, true≢false, get_or, inl, inr, subst}
 use Rattle.std.proofs.lemmas.List.Elements.{All-more, All-weaker, Contains-get_or}
 use Rattle.raft_progress.specs.progress.CountedValue.{AtMost}
-use Rattle.raft_progress.specs.Inner.Conditions.{comes_before}
+use Rattle.raft_progress.specs.Inner.Conditions.{is_below_bound}
 use Rattle.raft_progress.specs.Inner.Recount.{IsGreatest, at_least, reaches}
 use Rattle.raft_progress.proofs.lemmas.OrderLemmas.{AtMost-refl, AtMost-trans, AtMost-from_lt, AtMost-from_not_lt}
 
@@ -134,7 +134,7 @@ module _ {ID V P : Type 0} (eq : ID → ID → Bool) {cmp : P → P → Ordering
 
   -- no part from one on that no quorum has reached is reached
   pub unreached_beyond : (q : P) (u : Option P) → ForSome u (λ p. reaches eq cmp part is_quorum voters p ≡ false)
-      → comes_before cmp q u ≡ false → reaches eq cmp part is_quorum voters q ≡ false
+      → is_below_bound cmp q u ≡ false → reaches eq cmp part is_quorum voters q ≡ false
   unreached_beyond q None a h = absurd (true≢false h)
   unreached_beyond q (Some p) a h = by (reaches eq cmp part is_quorum voters q) refl
     where

@@ -14,7 +14,7 @@ use Rattle.std.proofs.lemmas.Map.Made.{All-is_member}
 use Rattle.raft_progress.specs.Inner.Recount.{at_least}
 use Rattle.raft_progress.specs.progress.CountedValue.{AtMost}
 use Rattle.raft_progress.specs.progress.Upgrade.{CanUpgrade, InheritsBelow, IsLeastBelow}
-use Rattle.raft_progress.specs.Inner.Conditions.{IsLeastPassing, comes_before, is_value_below}
+use Rattle.raft_progress.specs.Inner.Conditions.{IsLeastPassing, is_below_bound, is_value_below}
 use Rattle.raft_progress.proofs.lemmas.ListLemmas.{all_both, all_weaker}
 use Rattle.raft_progress.proofs.lemmas.OrderLemmas.{AtMost-refl, AtMost-trans, AtMost-from_lt, AtMost-from_not_lt}
 use Rattle.raft_progress.proofs.lemmas.progress.recount.CountedValueLemmas.{not_both}
@@ -35,7 +35,7 @@ module _ {ID : Type 0} {cmp : ID → ID → Ordering} (o : IsTotalOrder cmp) (te
   )
 
   -- it passes, and is no less than the least
-  pub least_holds : (least : Option ID) → comes_before cmp x least ≡ false → IsLeastPassing cmp test seen least
+  pub least_holds : (least : Option ID) → is_below_bound cmp x least ≡ false → IsLeastPassing cmp test seen least
       → IsLeastPassing cmp test (seen ++ x ∷ []) least
   least_holds None h a = absurd (true≢false h)
   least_holds (Some id) h a = (
@@ -49,7 +49,7 @@ module _ {ID : Type 0} {cmp : ID → ID → Ordering} (o : IsTotalOrder cmp) (te
   last_one = Contains-append_right seen (x ∷ []) x (0, omega arith, refl)
 
   -- it passes, and is the least now
-  pub least_falls : (least : Option ID) → test x ≡ true → comes_before cmp x least ≡ true → IsLeastPassing cmp test seen least
+  pub least_falls : (least : Option ID) → test x ≡ true → is_below_bound cmp x least ≡ true → IsLeastPassing cmp test seen least
       → IsLeastPassing cmp test (seen ++ x ∷ []) (Some x)
   least_falls None t h a = (
     last_one,

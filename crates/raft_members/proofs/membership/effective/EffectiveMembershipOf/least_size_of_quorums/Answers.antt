@@ -3,7 +3,7 @@ use Rattle.std.proofs.lemmas.List.Folds.{fold-map}
 use Rattle.std.specs.Prelude.{max}
 use Rattle.std.specs.Set.{is_member}
 use Rattle.raft_members.specs.quorum.Majority.{is_majority, is_joint_majority}
-use Rattle.raft_members.specs.quorum.QuorumSize.{greatest, majority_size}
+use Rattle.raft_members.specs.quorum.QuorumSize.{greatest_by, majority_size}
 use Rattle.raft_members.proofs.lemmas.membership.MappedLemmas.{list_all-map}
 use Rattle.raft_members.proofs.membership.effective.EffectiveMembershipOf.least_size_of_quorums.Goals as goal
 
@@ -12,7 +12,7 @@ returns-clause-exact g c =
     let exact = c.least_of_each.ensures.exact (λ config. majority_size config.items) (λ config n answered. search rules) in
     rw c.deref.ensures.value at exact
     ∙ sym (fold-map (λ so_far config. max (majority_size config) so_far) (λ config. config.items) 0 c.get_joint_config.result.now.items)
-    ∙ ap (greatest majority_size) c.get_joint_config.ensures
+    ∙ ap (greatest_by majority_size) c.get_joint_config.ensures
 
 pub returns-clause-least : goal.returns-clause-least
 returns-clause-least g c ids d h =

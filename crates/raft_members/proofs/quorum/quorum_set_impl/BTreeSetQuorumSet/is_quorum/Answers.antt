@@ -7,7 +7,7 @@ use Rattle.raft_members.proofs.quorum.quorum_set_impl.BTreeSetQuorumSet.is_quoru
 pub returns : goal.returns
 returns g c = record {
   quorum = λ d.
-      c.exceeds.ensures (λ x. contains_by (g.ID.Ord.cmp x) c.args.self.now) (λ x b e. search rules)
+      c.has_more_than.ensures (λ x. contains_by (g.ID.Ord.cmp x) c.args.self.now) (λ x b e. search rules)
       ∙ ap (λ n. ltb (n / 2) (count_by (λ x. contains_by (g.ID.Ord.cmp x) c.args.self.now) c.args.ids.now)) c.len.ensures.len
       ∙ set_majority g.met.ID.Eq.laws g.ID.Ord.cmp g.met.ID.Ord.matches_eq c.args.ids.now c.args.self.now.keys d;
 }

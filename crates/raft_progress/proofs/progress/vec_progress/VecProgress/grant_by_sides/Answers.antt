@@ -11,7 +11,7 @@ use Rattle.raft_progress.proofs.lemmas.ListLemmas.{length_take_le}
 use Rattle.raft_progress.proofs.lemmas.progress.SideLemmas.{enough_ranks, rank_within, sides_decide, sides_least}
 use Rattle.raft_progress.proofs.lemmas.progress.SizeLemmas.{last_granted, none_granted}
 use Rattle.raft_progress.proofs.lemmas.progress.UpdateLemmas.{IsDistinct-voters}
-use Rattle.raft_progress.proofs.lemmas.progress.entries.ShortPrefixLemmas.{lead_ends, not_scanned}
+use Rattle.raft_progress.proofs.lemmas.progress.entries.ShortPrefixLemmas.{finds_no_granted, lead_ends}
 use Rattle.raft_progress.proofs.progress.vec_progress.VecProgress.grant_by_sides.Goals as goal
 
 pub first_ranks-requires : goal.first_ranks-requires
@@ -34,7 +34,7 @@ returns-then-short-self g c =
     let past = c.if-short-self.true in
     let ends : prefix_len over (take p.voter_count p.entries.items) ≤ c.max-short.result =
     omega (arith, prefix_len-le-length over (take p.voter_count p.entries.items), length_take_le p.entries.items p.voter_count) in
-    not_scanned g.met.ID.Eq.laws g.P.Ord.cmp g.V.ProgressPart.part_of g.QS.QuorumSet.has_quorum (view p)
+    finds_no_granted g.met.ID.Eq.laws g.P.Ord.cmp g.V.ProgressPart.part_of g.QS.QuorumSet.has_quorum (view p)
     (IsDistinct-voters g.met.ID.Eq.laws p.voter_count p.entries.items c.requires.distinct)
     (max c.args.sides.now.first.need c.args.sides.now.second.need)
     (sides_least g.met.ID.Eq.laws (g.QS.QuorumSet.has_quorum p.quorum_set) (keys_of p.positions.sorted.items) c.args.sides.now
@@ -53,7 +53,7 @@ returns-then-not-is_below g c =
     let ends : prefix_len over (take p.voter_count p.entries.items) ≤ c.max-short.result =
     lead_ends over (take p.voter_count p.entries.items) c.max-short.result e
     (ap over (get_or-take p.voter_count p.entries.items c.max-short.result e within ∙ sym c.index.ensures) ∙ fails) in
-    not_scanned g.met.ID.Eq.laws g.P.Ord.cmp g.V.ProgressPart.part_of g.QS.QuorumSet.has_quorum (view p)
+    finds_no_granted g.met.ID.Eq.laws g.P.Ord.cmp g.V.ProgressPart.part_of g.QS.QuorumSet.has_quorum (view p)
     (IsDistinct-voters g.met.ID.Eq.laws p.voter_count p.entries.items c.requires.distinct)
     (max c.args.sides.now.first.need c.args.sides.now.second.need)
     (sides_least g.met.ID.Eq.laws (g.QS.QuorumSet.has_quorum p.quorum_set) (keys_of p.positions.sorted.items) c.args.sides.now

@@ -5,9 +5,9 @@ use Rattle.raft_progress.specs.Inner.Conditions.{IsLeastPassing, is_value_below}
 use Rattle.raft_progress.proofs.lemmas.progress.upgrade.BelowLemmas.{least_falls, least_holds, least_stays}
 use Rattle.raft_progress.proofs.progress.vec_progress.VecProgress.least_of.Goals as goal
 use Rattle.raft_progress.proofs.progress.vec_progress.VecProgress.least_of.Goals.{
-  then-is_value_below+then-is_before,
+  then-is_value_below+then-is_below_bound,
   else-is_value_below,
-  else-is_value_below-via-then-is_value_below+else-is_before,
+  else-is_value_below-via-then-is_value_below+else-is_below_bound,
   else-is_value_below-via-else-is_value_below,
 }
 
@@ -25,16 +25,16 @@ loop-id-preserved g c = λ seen h.
     let before = c.loop-id.invariant seen h in
     subst (λ (xs : List g.row.ID.Denot). IsLeastPassing g.ID.Ord.cmp test xs c.if-is_value_below.least) more
     (elim c.if-is_value_below.branch [
-      | then-is_value_below+then-is_before w ↦
+      | then-is_value_below+then-is_below_bound w ↦
           subst (λ (o : Option g.row.ID.Denot). IsLeastPassing g.ID.Ord.cmp test ((seen ++ take i ids) ++ x ∷ []) o) (sym w.least-is)
           (least_falls g.met.ID.Ord.total test (seen ++ take i ids) x c.loop-id.least
-          (sym c.is_value_below.ensures ∙ w.if-is_value_below.true) (sym w.is_before.ensures ∙ w.if-is_before.true) before)
+          (sym c.is_value_below.ensures ∙ w.if-is_value_below.true) (sym w.is_below_bound.ensures ∙ w.if-is_below_bound.true) before)
       | else-is_value_below w ↦
           subst (λ (o : Option g.row.ID.Denot). IsLeastPassing g.ID.Ord.cmp test ((seen ++ take i ids) ++ x ∷ []) o) (sym w.least-is)
           (elim w.else-is_value_below.branch [
-            | else-is_value_below-via-then-is_value_below+else-is_before w' ↦
+            | else-is_value_below-via-then-is_value_below+else-is_below_bound w' ↦
                 least_holds g.met.ID.Ord.total test (seen ++ take i ids) x c.loop-id.least
-                (sym w'.is_before.ensures ∙ w'.if-is_before.false) before
+                (sym w'.is_below_bound.ensures ∙ w'.if-is_below_bound.false) before
             | else-is_value_below-via-else-is_value_below w' ↦
                 least_stays g.met.ID.Ord.total test (seen ++ take i ids) x c.loop-id.least
                 (sym c.is_value_below.ensures ∙ w'.if-is_value_below.false) before

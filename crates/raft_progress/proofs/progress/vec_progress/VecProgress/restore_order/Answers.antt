@@ -63,7 +63,7 @@ find_granted-requires-clause-can_count g c = λ counts.
 
 pub find_granted-requires-clause-sides : goal.find_granted-requires-clause-sides
 find_granted-requires-clause-sides g c = λ s is fresh.
-    rw (c.move_voter_up-to.ensures.risen.group.quorum_set, c.move_voter_up-to.ensures.ids)
+    rw (c.move_voter_up-to.ensures.risen.kept.quorum_set, c.move_voter_up-to.ensures.ids)
     (c.requires.sides s is (sym c.move_voter_up-to.ensures.stale ∙ fresh))
 
 pub returns-then-not-is_below-2 : goal.returns-then-not-is_below-2

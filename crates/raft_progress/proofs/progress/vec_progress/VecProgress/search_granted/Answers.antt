@@ -3,9 +3,9 @@ use Rattle.std.specs.List.{prefix_len}
 use Rattle.std.proofs.Common.{ap, arith, get_or, is_lt, refl, subst, sym, take, ◌∙◌, ◌≡◌, ◌-◌, ◌^◌, ◌<◌, ◌≤◌, true, false, ℕ}
 use Rattle.std.proofs.lemmas.List.Sums.{prefix_len-le-length}
 use Rattle.raft_progress.specs.Inner.Recount.{exceeds}
-use Rattle.raft_progress.specs.Inner.Settled.{IsScanned}
+use Rattle.raft_progress.specs.Inner.Settled.{FindsGranted}
 use Rattle.raft_progress.specs.progress.VecProgress.{view}
-use Rattle.raft_progress.proofs.lemmas.progress.entries.ShortPrefixLemmas.{lead_ends, not_scanned, scanned_from}
+use Rattle.raft_progress.proofs.lemmas.progress.entries.ShortPrefixLemmas.{finds_granted_past, finds_no_granted, lead_ends}
 use Rattle.raft_progress.proofs.lemmas.ListLemmas.{length_take_le}
 use Rattle.raft_progress.proofs.lemmas.progress.UpdateLemmas.{IsDistinct-voters}
 use Rattle.raft_progress.proofs.progress.vec_progress.VecProgress.search_granted.Goals as goal
@@ -29,10 +29,10 @@ returns-then-self-eq1 g c =
     let short_is : c.max-short.result ≡ max (c.least_quorum_size-least.result - 1) c.args.position =
     rw (c.max-short.ensures, c.saturating_sub.ensures) refl in
     let first : 0 ≡ c.max-short.result = omega arith in
-    scanned_from g.met.ID.Eq.laws g.P.Ord.cmp g.V.ProgressPart.part_of g.QS.QuorumSet.has_quorum (view p)
+    finds_granted_past g.met.ID.Eq.laws g.P.Ord.cmp g.V.ProgressPart.part_of g.QS.QuorumSet.has_quorum (view p)
     (IsDistinct-voters g.met.ID.Eq.laws p.voter_count p.entries.items c.requires.distinct) c.least_quorum_size-least.result
     c.least_quorum_size-least.ensures.least c.args.position c.max-short.result short_is (view c.test_only_voter.new.self)
-    (subst (λ (n : ℕ). IsScanned g.ID.PartialEq.eq g.P.Ord.cmp g.V.ProgressPart.part_of g.QS.QuorumSet.has_quorum (view p) n
+    (subst (λ (n : ℕ). FindsGranted g.ID.PartialEq.eq g.P.Ord.cmp g.V.ProgressPart.part_of g.QS.QuorumSet.has_quorum (view p) n
     (view c.test_only_voter.new.self)) first c.test_only_voter.ensures)
 
 pub returns-else-self-eq1 : goal.returns-else-self-eq1
@@ -40,7 +40,7 @@ returns-else-self-eq1 g c =
     let p = c.args.self.now in
     let short_is : c.max-short.result ≡ max (c.least_quorum_size-least.result - 1) c.args.position =
     rw (c.max-short.ensures, c.saturating_sub.ensures) refl in
-    scanned_from g.met.ID.Eq.laws g.P.Ord.cmp g.V.ProgressPart.part_of g.QS.QuorumSet.has_quorum (view p)
+    finds_granted_past g.met.ID.Eq.laws g.P.Ord.cmp g.V.ProgressPart.part_of g.QS.QuorumSet.has_quorum (view p)
     (IsDistinct-voters g.met.ID.Eq.laws p.voter_count p.entries.items c.requires.distinct) c.least_quorum_size-least.result
     c.least_quorum_size-least.ensures.least c.args.position c.max-short.result short_is (view c.test_prefixes.new.self)
     c.test_prefixes.ensures
@@ -55,7 +55,7 @@ returns-then-short-self g c =
     let past = c.if-short-self.true in
     let ends : prefix_len over (take p.voter_count p.entries.items) ≤ c.max-short.result =
     omega (arith, prefix_len-le-length over (take p.voter_count p.entries.items), length_take_le p.entries.items p.voter_count) in
-    not_scanned g.met.ID.Eq.laws g.P.Ord.cmp g.V.ProgressPart.part_of g.QS.QuorumSet.has_quorum (view p)
+    finds_no_granted g.met.ID.Eq.laws g.P.Ord.cmp g.V.ProgressPart.part_of g.QS.QuorumSet.has_quorum (view p)
     (IsDistinct-voters g.met.ID.Eq.laws p.voter_count p.entries.items c.requires.distinct) c.least_quorum_size-least.result
     c.least_quorum_size-least.ensures.least c.args.position c.max-short.result short_is ends fits
 
@@ -72,6 +72,6 @@ returns-then-not-is_below g c =
     let ends : prefix_len over (take p.voter_count p.entries.items) ≤ c.max-short.result =
     lead_ends over (take p.voter_count p.entries.items) c.max-short.result e
     (ap over (get_or-take p.voter_count p.entries.items c.max-short.result e within ∙ sym c.index.ensures) ∙ fails) in
-    not_scanned g.met.ID.Eq.laws g.P.Ord.cmp g.V.ProgressPart.part_of g.QS.QuorumSet.has_quorum (view p)
+    finds_no_granted g.met.ID.Eq.laws g.P.Ord.cmp g.V.ProgressPart.part_of g.QS.QuorumSet.has_quorum (view p)
     (IsDistinct-voters g.met.ID.Eq.laws p.voter_count p.entries.items c.requires.distinct) c.least_quorum_size-least.result
     c.least_quorum_size-least.ensures.least c.args.position c.max-short.result short_is ends fits

@@ -13,8 +13,8 @@ use Rattle.raft_progress.proofs.progress.vec_progress.VecProgress.take_over.Goal
 pub loop-entry-init : goal.loop-entry-init
 loop-entry-init g c = record {
   ordered = subst (λ (p : ProgressView g.row.ID.Denot g.row.V.Denot g.row.P.Denot g.row.QS.Denot). IsInOrder g.ID.PartialEq.eq
-      g.P.Ord.cmp g.V.ProgressPart.part_of g.QS.QuorumSet.has_quorum p) (sym c.go_on_from.ensures.same) c.requires.ordered;
-  each = c.go_on_from.ensures.same;
+      g.P.Ord.cmp g.V.ProgressPart.part_of g.QS.QuorumSet.has_quorum p) (sym c.copy_counts.ensures.same) c.requires.ordered;
+  each = c.copy_counts.ensures.same;
 }
 
 pub inherit-requires-clause-monotone : goal.inherit-requires-clause-monotone

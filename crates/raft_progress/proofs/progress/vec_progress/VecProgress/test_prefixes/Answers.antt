@@ -50,12 +50,12 @@ index-requires g c =
 
 pub returns-in-Some : goal.returns-in-Some
 returns-in-Some g c = record {
-  group = record { quorum_set = refl; voter_count = refl; default_part = refl; updates = refl };
+  kept = record { quorum_set = refl; voter_count = refl; default_part = refl; updates = refl };
   same_progress_entries = refl;
   moves = refl;
   found = c.find_shortest_quorum-found.result.len;
   tests = c.find_shortest_quorum-found.result.tests;
-  scanned = least_of_entries (exceeds g.P.Ord.cmp g.V.ProgressPart.part_of c.args.self.now.granted) c.args.self.now.voter_count
+  shortest = least_of_entries (exceeds g.P.Ord.cmp g.V.ProgressPart.part_of c.args.self.now.granted) c.args.self.now.voter_count
       c.deref.result.now c.gather_leading-high.ensures.count c.find_shortest_quorum-found.ensures c.args.self.now.entries.items
       c.deref.ensures.value;
   counts = c.saturating_add-self.ensures;
@@ -76,12 +76,12 @@ returns-in-Some g c = record {
 
 pub returns-in_default : goal.returns-in_default
 returns-in_default g c = record {
-  group = record { quorum_set = refl; voter_count = refl; default_part = refl; updates = refl };
+  kept = record { quorum_set = refl; voter_count = refl; default_part = refl; updates = refl };
   same_progress_entries = refl;
   moves = refl;
   found = c.find_shortest_quorum-found.result.len;
   tests = c.find_shortest_quorum-found.result.tests;
-  scanned = least_of_entries (exceeds g.P.Ord.cmp g.V.ProgressPart.part_of c.args.self.now.granted) c.args.self.now.voter_count
+  shortest = least_of_entries (exceeds g.P.Ord.cmp g.V.ProgressPart.part_of c.args.self.now.granted) c.args.self.now.voter_count
       c.deref.result.now c.gather_leading-high.ensures.count c.find_shortest_quorum-found.ensures c.args.self.now.entries.items
       c.deref.ensures.value;
   counts = c.saturating_add-self.ensures;

@@ -1,5 +1,5 @@
 use Rattle.std.proofs.Common.{◌≤◌, length}
-use Rattle.raft_progress.proofs.progress.recount.reached_or_default.Given as goal
+use Rattle.raft_progress.proofs.progress.recount.lower_bound.Given as goal
 
 -- the ids of all voters fit the scratch space
 abbrev pub invariant-loop-entry : goal.invariant-loop-entry

@@ -1,7 +1,7 @@
 use Rattle.std.proofs.Common.{◌≡◌, ◌+◌, true, false, cond, arith, sym, ap, ◌∙◌, get_or, lt-ltb}
 use Rattle.std.proofs.lemmas.List.Sums.{count_by_more_no, count_by_more_yes, sum_by-take-le}
-use Rattle.raft_members.proofs.quorum.quorum_set_impl.exceeds.Goals as goal
-use Rattle.raft_members.proofs.quorum.quorum_set_impl.exceeds.Goals.{then-is_voter+else-found-limit, else-is_voter}
+use Rattle.raft_members.proofs.quorum.quorum_set_impl.has_more_than.Goals as goal
+use Rattle.raft_members.proofs.quorum.quorum_set_impl.has_more_than.Goals.{then-is_voter+else-found-limit, else-is_voter}
 
 pub returns-then-found-limit : goal.returns-then-found-limit
 returns-then-found-limit g c = λ voter says.

@@ -1,6 +1,6 @@
 use Rattle.std.proofs.Common.{arith, sym, ap, ◌∙◌, is_lt}
 use Rattle.raft_progress.proofs.lemmas.progress.recount.RecountLemmas.{greatest_first}
-use Rattle.raft_progress.proofs.progress.recount.reached_or_default.Goals as goal
+use Rattle.raft_progress.proofs.progress.recount.lower_bound.Goals as goal
 
 pub returns-then-is_reached : goal.returns-then-is_reached
 returns-then-is_reached g c =
