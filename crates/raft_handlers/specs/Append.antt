@@ -1,24 +1,5 @@
 -- What a follower makes of a leader's request to append entries.
-use Rattle.std.specs.Prelude.{
-  ◌≡◌,
-  ℕ,
-  ◌<◌,
-  Bool,
-  true,
-  false,
-  ◌&&◌,
-  ◌⊎◌,
-  ◌++◌,
-  List,
-  [],
-  ◌∷◌,
-  Option,
-  Some,
-  None,
-  IsTrue,
-  drop,
-  if◌then◌else◌,
-}
+use Rattle.std.specs.Prelude.{◌≡◌, ℕ, ◌<◌, Bool, true, false, ◌&&◌, ◌⊎◌, List, [], ◌∷◌, Option, Some, None, IsTrue, drop, if◌then◌else◌}
 use Rattle.std.specs.List.{list_all, prefix_len}
 use Rattle.std.specs.Option.{option_or}
 use Rattle.std.specs.declared.cmp.Ordering.{Ordering}
@@ -28,13 +9,10 @@ use Rattle.raft_base.specs.declared.vote.VoteIn.{VoteIn}
 use Rattle.raft_handlers.specs.Entries.{
   accepted_below,
   are_in_order,
-  effective_before,
-  effective_with,
   entry_ids,
   has_committed_with,
   has_id,
   has_members_in_order,
-  has_memberships_in_order,
   keeps_committed,
   last_before,
   log_with_new,
@@ -50,13 +28,11 @@ use Rattle.raft_handlers.specs.declared.error.AppendError.{AppendError}
 use Rattle.raft_handlers.specs.declared.message.AppendEntries.{AppendEntries}
 use Rattle.raft_handlers.specs.declared.message.Outcome.{Outcome}
 use Rattle.raft_handlers.specs.declared.message.Outcome.TheVariants.{Matches, Conflict, HigherVote}
-use Rattle.raft_members.specs.membership.Stored.{log_id_of}
 use Rattle.raft_progress.specs.progress.Comparisons.{OrdMembers}
 use Rattle.raft_state.specs.raft_state.Appended.{AppendsMemberships}
 use Rattle.raft_state.specs.entry.Entry.{payload_membership}
 use Rattle.raft_state.specs.log_id_list.FullLog.{end_index, full_log, same_log}
 use Rattle.raft_state.specs.log_id_list.LogEdits.{front}
-use Rattle.raft_state.specs.log_id_list.LogKept.{HasIds, KeepsIds}
 use Rattle.raft_state.specs.log_id_list.LogReads.{id_at, last_id}
 use Rattle.raft_state.specs.membership_state.MembershipMoves.{after_commit}
 use Rattle.raft_state.specs.membership_state.Memberships.{Memberships}
@@ -141,64 +117,6 @@ TakesMemberships {K} {N} {I} {L} {C} cmp eq same new upto s m =
     (λ e. payload_membership e.payload) new (memberships_before new s) appended
     × (m ≡ (if id_lt cmp s.committed upto then after_commit cmp upto appended else appended))
 
--- a log was truncated at an index, unless it ended before it, and with it what was accepted and the
--- memberships; nothing that is committed was lost
-pub record IsCut {K N I L C : Type 0} (ord : OrdMembers C) (since : ℕ) (old new : RaftStateIn K N I L C)
-    : Type 0 where
-  pub keeps : IsTrue (may_cut ord.cmp since old)
-  pub log : full_log new.log_ids ≡ front (full_log old.log_ids) since
-  pub memberships : new.membership_state ≡ memberships_below since old
-  pub accepted : new.accepted ≡ accepted_below ord.cmp since old
-  pub rest : new ≡ record old {
-    log_ids = new.log_ids;
-    membership_state = new.membership_state;
-    accepted = new.accepted;
-  }
-
--- these entries took the place of the log from the index of the first one on, and their memberships
--- are effective:
--- - the tests that they passed, and the log afterwards;
--- - below the first entry the log is as it was, and it has each entry;
--- - what that makes of the memberships and of what is accepted; nothing else changed.
-pub record Replaces {K N I L C D : Type 0} (ord : OrdMembers C) (id_eq : K → K → Bool)
-    (same : N → N → Bool) (es : List (EntryOf C K N D)) (old new : RaftStateIn K N I L C) : Type 0 where
-  pub keeps : IsTrue (keeps_committed ord.cmp es old)
-  pub order : IsTrue (are_in_order ord.cmp (last_before es old) es)
-  pub members : IsTrue (has_memberships_in_order ord.cmp (effective_before es old) es)
-  pub log : IsTrue (same_log ord.eq (full_log new.log_ids) (log_with_new (full_log old.log_ids) es))
-  pub kept : KeepsBelow ord.eq (replaced_since (full_log old.log_ids) es) (full_log old.log_ids)
-      (full_log new.log_ids)
-  pub nothing_new : es ≡ [] → new.log_ids ≡ old.log_ids
-  pub own : HasIds ord.eq (entry_ids es) (full_log new.log_ids)
-  pub ends : last_id (full_log new.log_ids)
-      ≡ option_or (last_id (entry_ids es)) (last_id (full_log old.log_ids))
-  pub memberships : AppendsMemberships id_eq same (λ e. e.log_id) (λ e. payload_membership e.payload) es
-      (memberships_before es old) new.membership_state
-  pub effective : log_id_of new.membership_state.effective ≡ effective_with (effective_before es old) es
-  pub accepted : new.accepted ≡ accepted_before ord.cmp es old
-  pub rest : new ≡ record old {
-    log_ids = new.log_ids;
-    membership_state = new.membership_state;
-    accepted = new.accepted;
-  }
-
--- these entries are appended to a log that they may be appended to, and their memberships are
--- effective:
--- - the log ids of the log afterwards, of which the last one is that of the last entry;
--- - what that makes of the memberships; nothing else changed.
-pub record Extends {K N I L C D : Type 0} (eq : C → C → Bool) (id_eq : K → K → Bool)
-    (same : N → N → Bool) (es : List (EntryOf C K N D)) (old new : RaftStateIn K N I L C) : Type 0 where
-  pub log : IsTrue (same_log eq (full_log new.log_ids) (full_log old.log_ids ++ entry_ids es))
-  pub last : last_id (full_log new.log_ids)
-      ≡ option_or (last_id (entry_ids es)) (last_id (full_log old.log_ids))
-  pub kept : KeepsIds eq (full_log old.log_ids) (full_log new.log_ids)
-  pub own : HasIds eq (entry_ids es) (full_log new.log_ids)
-  pub memberships : AppendsMemberships id_eq same (λ e. e.log_id) (λ e. payload_membership e.payload) es
-      old.membership_state new.membership_state
-  pub effective : log_id_of new.membership_state.effective
-      ≡ effective_with (log_id_of old.membership_state.effective) es
-  pub rest : new ≡ record old { log_ids = new.log_ids; membership_state = new.membership_state }
-
 -- the log, the memberships and what is accepted are as they were
 pub record IsLogKept {K N I L C : Type 0} (old new : RaftStateIn K N I L C) : Type 0 where
   pub log : new.log_ids ≡ old.log_ids
@@ -219,19 +137,6 @@ pub record HasReplaced {K N I L C D : Type 0} (ord : OrdMembers C) (id_eq : K �
   pub memberships : AppendsMemberships id_eq same (λ e. e.log_id) (λ e. payload_membership e.payload) es
       (memberships_before es old) new.membership_state
   pub accepted : new.accepted ≡ accepted_before ord.cmp es old
-
--- entries were refused, or an allocation failed, before they were in the log: all is as it was, or cut
--- off at the first one
-pub record Stops {K N I L C D : Type 0} (ord : OrdMembers C) (es : List (EntryOf C K N D))
-    (old new : RaftStateIn K N I L C) : Type 0 where
-  pub left : IsLogKept old new ⊎ (IsTrue (keeps_committed ord.cmp es old) × IsCutBefore ord.cmp es old new)
-  pub kept : KeepsBelow ord.eq (replaced_since (full_log old.log_ids) es) (full_log old.log_ids)
-      (full_log new.log_ids)
-  pub rest : new ≡ record old {
-    log_ids = new.log_ids;
-    membership_state = new.membership_state;
-    accepted = new.accepted;
-  }
 
 -- a log id has this index, and the log does not have it, nor is its index purged
 abbrev pub IsConflict : {K N I L C : Type 0} → (C → C → Bool) → ℕ → Option (LogIdOf C)

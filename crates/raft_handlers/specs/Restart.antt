@@ -102,16 +102,6 @@ abbrev pub snapshot_membership : {C K N : Type 0} → Option (LogIdOf C) → Sto
 snapshot_membership None stored = None
 snapshot_membership (Some last) stored = log_id_of stored
 
--- a server has a snapshot alone
-pub record HasSnapshotAlone {K N I L C : Type 0} (eq : K → K → Bool) (same : N → N → Bool)
-    (meta : SnapshotMetaOf C K N) (s : RaftStateIn K N I L C) : Type 0 where
-  pub log : full_log s.log_ids ≡ snapshot_ids meta.last_log_id
-  pub committed : s.committed ≡ meta.last_log_id
-  pub purged_next : s.purged_next ≡ next_index meta.last_log_id
-  pub purge_point : s.purge_upto ≡ meta.last_log_id
-  pub memberships : AreSnapshotMemberships eq same meta s.membership_state
-  pub snapshot : IsSnapshotAt eq same meta.last_log_id meta s.snapshot_meta
-
 -- a server has not run: it is a learner, its vote has no moment, and its storage has done nothing
 pub record HasNotRun {K N I L C : Type 0} (IsDefaultLeader : L → Type 0)
     (IsDefaultElected : C → Type 0) (s : RaftStateIn K N I L C) : Type 0 where

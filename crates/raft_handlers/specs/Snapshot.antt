@@ -70,8 +70,3 @@ snapshot_refusal order cmp eq leader meta s =
 abbrev pub RefusedFor : {T : Type 0} → Option SnapshotError → Result T SnapshotError → Type 0
 RefusedFor (Some reason) result = result ≡ Err reason
 RefusedFor None result = IfErr result (λ e. e ≡ OutOfMemory)
-
--- a snapshot is refused only if it does not fit, or because an allocation fails
-abbrev pub RefusedUnlessFits : Bool → SnapshotError → Type 0
-RefusedUnlessFits fits DoesNotFit = fits ≡ false
-RefusedUnlessFits fits OutOfMemory = Unit {0}

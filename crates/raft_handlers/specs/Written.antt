@@ -68,19 +68,6 @@ count_new eq (Matches upto) es s = length (new_of eq s es)
 count_new eq (Conflict at last) es s = 0
 count_new eq (HigherVote vote) es s = 0
 
--- the log is truncated at this index, at which or after which it has an entry, or it is as it was
-pub record Truncates {K N I L C : Type 0} (from : Option ℕ) (old new : RaftStateIn K N I L C)
-    : Type 0 where
-  pub log : full_log new.log_ids ≡ truncated from (full_log old.log_ids)
-  pub needed : IfSome from (λ at. ends_before at old ≡ false)
-
--- the log is truncated at this index, at which or after which it has an entry, and then these log ids
--- are appended
-pub record WritesEntries {K N I L C : Type 0} (eq : C → C → Bool) (from : Option ℕ)
-    (ids : List (LogIdOf C)) (old new : RaftStateIn K N I L C) : Type 0 where
-  pub log : IsTrue (same_log eq (full_log new.log_ids) (truncated from (full_log old.log_ids) ++ ids))
-  pub needed : IfSome from (λ at. ends_before at old ≡ false)
-
 -- what changes say of the log and of what is committed, after a request with these entries:
 -- - a disk that has the old log and follows the changes has the new log;
 -- - the log is truncated only at an index at which or after which it has an entry;

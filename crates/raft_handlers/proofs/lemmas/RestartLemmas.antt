@@ -56,10 +56,9 @@ use Rattle.raft_handlers.proofs.lemmas.TakeLemmas.{
   commit_snapshot,
   commit_takes,
 }
-use Rattle.raft_handlers.specs.Append.{greatest, memberships_before, Replaces, TakesMemberships}
+use Rattle.raft_handlers.specs.Append.{greatest, memberships_before, TakesMemberships}
 use Rattle.raft_handlers.specs.Entries.{
   allows_commit_past,
-  commit_tests,
   effective_before,
   effective_with,
   ends_before,
@@ -69,7 +68,6 @@ use Rattle.raft_handlers.specs.Entries.{
   keeps_committed,
   last_before,
   log_with_new,
-  new_tests,
 }
 use Rattle.raft_handlers.specs.Restart.{
   entries_past,
@@ -79,7 +77,6 @@ use Rattle.raft_handlers.specs.Restart.{
   snapshot_membership,
   AppendsStored,
   CommitsKnown,
-  HasSnapshotAlone,
   IsMembershipAt,
   IsRefusedWith,
   IsRestartRefusal,
@@ -87,7 +84,9 @@ use Rattle.raft_handlers.specs.Restart.{
   Restores,
 }
 use Rattle.raft_handlers.specs.Entries.{RefusedUnless}
-use Rattle.raft_handlers.specs.Snapshot.{install_refusal, InstallsSnapshot, RefusedFor, RefusedUnlessFits}
+use Rattle.raft_handlers.specs.Snapshot.{install_refusal, InstallsSnapshot, RefusedFor}
+use Rattle.raft_handlers.specs.Inner.Log.{Replaces, commit_tests, new_tests}
+use Rattle.raft_handlers.specs.Inner.Restart.{HasSnapshotAlone, RefusedUnlessFits}
 use Rattle.raft_handlers.specs.declared.error.AppendError.{AppendError}
 use Rattle.raft_handlers.specs.declared.error.AppendError.TheVariants.{
   CommittedNotLogged,

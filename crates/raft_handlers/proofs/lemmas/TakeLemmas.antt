@@ -56,38 +56,33 @@ use Rattle.raft_handlers.specs.Append.{
   HasReplaced,
   IfHigherVote,
   IsConflict,
-  IsCut,
   IsCutBefore,
   IsLeftBy,
   IsLogKept,
   KeepsBelow,
   Refused,
   Refuses,
-  Replaces,
-  Stops,
   TakesMemberships,
   Took,
 }
 use Rattle.raft_handlers.specs.Entries.{
   allows_commit_past,
   are_in_order,
-  commit_tests,
   effective_before,
   effective_with,
   entry_ids,
   has_committed_with,
   has_id,
   has_memberships_in_order,
-  has_past_committed,
   has_with,
   keeps_committed,
   last_before,
   may_cut,
-  new_tests,
   tests_hold,
   RefusedUnless,
   TakeTests,
 }
+use Rattle.raft_handlers.specs.Inner.Log.{IsCut, Replaces, Stops, commit_tests, has_past_committed, new_tests}
 use Rattle.raft_handlers.specs.Follow.{heard, is_followed}
 use Rattle.raft_handlers.specs.declared.error.AppendError.{AppendError}
 use Rattle.raft_handlers.specs.declared.error.AppendError.TheVariants.{NotInOrder}

@@ -46,13 +46,12 @@ use Rattle.raft_handlers.specs.Written.{
   no_changes,
   nothing_installed,
   risen_to,
-  Truncates,
   Writes,
-  WritesEntries,
   WritesInstall,
   WritesLog,
   WritesSnapshot,
 }
+use Rattle.raft_handlers.specs.Inner.Log.{Truncates, WritesEntries}
 use Rattle.raft_handlers.specs.declared.changes.Changes.{Changes}
 use Rattle.raft_handlers.specs.declared.changes.SnapshotChanges.{SnapshotChanges}
 use Rattle.raft_handlers.specs.declared.message.Outcome.{Outcome}
