@@ -5,7 +5,7 @@ use Rattle.std.specs.Cmp.{IsEquivalence}
 use Rattle.std.specs.Option.{option_or}
 use Rattle.std.specs.Prelude.{slice_get}
 use Rattle.std.specs.declared.cmp.Ordering.{Ordering}
-use Rattle.raft_handlers.proofs.EntryLemmas.{ends_alike, front_whole, kept_through, same_log_itself}
+use Rattle.raft_handlers.proofs.lemmas.EntryLemmas.{ends_alike, front_whole, kept_through, same_log_itself}
 use Rattle.raft_handlers.proofs.lemmas.RefusalLemmas.{refused_unless_more}
 use Rattle.raft_handlers.specs.Entries.{
   are_in_order,

@@ -47,7 +47,7 @@ use Rattle.raft_base.specs.LogId.{id_le, id_lt, index_of, log_id_cmp, next_index
 use Rattle.raft_base.specs.LogIdLawful.{optional-log_id_cmp-total}
 use Rattle.raft_base.specs.LogIndex.{index_le, index_lt}
 use Rattle.raft_base.specs.declared.log_id.LogIdOf.{LogIdOf}
-use Rattle.raft_handlers.proofs.EntryLemmas.{same_through}
+use Rattle.raft_handlers.proofs.lemmas.EntryLemmas.{same_through}
 use Rattle.raft_handlers.specs.Append.{has_entry, last_of, least, may_cut_at, may_take, new_of}
 use Rattle.raft_handlers.specs.Entries.{
   allows_commit,

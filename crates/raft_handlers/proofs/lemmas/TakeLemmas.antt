@@ -36,7 +36,7 @@ use Rattle.raft_base.specs.LogId.{id_lt, index_of}
 use Rattle.raft_base.specs.declared.log_id.LogIdOf.{LogIdOf}
 use Rattle.raft_base.specs.declared.utime.UTime.{UTime}
 use Rattle.raft_base.specs.declared.vote.VoteIn.{VoteIn}
-use Rattle.raft_handlers.proofs.EntryLemmas.{entries_present, has_after_entries, has_alike, has_with_alone, prev_stays}
+use Rattle.raft_handlers.proofs.lemmas.EntryLemmas.{entries_present, has_after_entries, has_alike, has_with_alone, prev_stays}
 use Rattle.raft_handlers.proofs.lemmas.RefusalLemmas.{refused_unless_more}
 use Rattle.raft_handlers.specs.Append.{
   accepted_before,
