@@ -49,9 +49,9 @@ IfHigherVote (Conflict at last) p = Unit {0}
 IfHigherVote (HigherVote vote) p = p vote
 
 -- the log id of the last of these entries, or `prev` where there is none
-abbrev pub last_of : {C K N D : Type 0} → Option (LogIdOf C) → List (EntryOf C K N D)
+abbrev pub last_id_of_request : {C K N D : Type 0} → Option (LogIdOf C) → List (EntryOf C K N D)
     → Option (LogIdOf C)
-last_of prev es = option_or (last_id (entry_ids es)) prev
+last_id_of_request prev es = option_or (last_id (entry_ids es)) prev
 
 -- the log of a state has an entry, or its index is purged
 abbrev pub has_entry : {K N I L C D : Type 0} → (C → C → Bool) → RaftStateIn K N I L C
@@ -64,9 +64,9 @@ abbrev pub has_all : {K N I L C D : Type 0} → (C → C → Bool) → RaftState
 has_all eq s es = list_all (has_entry eq s) es
 
 -- the first entry that a log does not have, and those after it
-abbrev pub new_of : {K N I L C D : Type 0} → (C → C → Bool) → RaftStateIn K N I L C
+abbrev pub entries_to_append : {K N I L C D : Type 0} → (C → C → Bool) → RaftStateIn K N I L C
     → List (EntryOf C K N D) → List (EntryOf C K N D)
-new_of eq s es = drop (prefix_len (has_entry eq s) es) es
+entries_to_append eq s es = drop (prefix_len (has_entry eq s) es) es
 
 -- the index from which on new entries take the place of a log: past its end if there are none
 abbrev pub replaced_since : {C K N D : Type 0} → List (LogIdOf C) → List (EntryOf C K N D) → ℕ
@@ -80,14 +80,14 @@ KeepsBelow eq since old new =
     (i : ℕ) → i < since → IsTrue (same_ids eq (id_at new i) (id_at old i))
 
 -- the lesser one of two log ids
-abbrev pub least : {C : Type 0} → (C → C → Ordering) → Option (LogIdOf C) → Option (LogIdOf C)
+abbrev pub lesser_id : {C : Type 0} → (C → C → Ordering) → Option (LogIdOf C) → Option (LogIdOf C)
     → Option (LogIdOf C)
-least cmp a b = if id_lt cmp a b then a else b
+lesser_id cmp a b = if id_lt cmp a b then a else b
 
 -- the greater one of two log ids
-abbrev pub greatest : {C : Type 0} → (C → C → Ordering) → Option (LogIdOf C)
+abbrev pub greater_id : {C : Type 0} → (C → C → Ordering) → Option (LogIdOf C)
     → Option (LogIdOf C) → Option (LogIdOf C)
-greatest cmp a b = if id_lt cmp a b then b else a
+greater_id cmp a b = if id_lt cmp a b then b else a
 
 -- the log of a state before these new entries are appended
 abbrev pub log_before : {K N I L C D : Type 0} → List (EntryOf C K N D) → RaftStateIn K N I L C
@@ -157,7 +157,8 @@ abbrev pub may_take : {K N I L C D : Type 0} → (C → C → Bool) → (C → C
 may_take eq cmp prev es committed s =
     if purged_or_logged eq s prev
     then are_in_order cmp prev es
-    && may_take_new eq cmp (new_of eq s es) (least cmp committed (last_of prev es)) s
+    && may_take_new eq cmp (entries_to_append eq s es)
+    (lesser_id cmp committed (last_id_of_request prev es)) s
     else may_cut_at cmp prev s
 
 -- the tests of entries after a log id that the log has, and of a log id that is to be committed with
@@ -166,10 +167,11 @@ abbrev pub take_tests : {K N I L C D : Type 0} → (C → C → Bool) → (C →
     → Option (LogIdOf C) → List (EntryOf C K N D) → Option (LogIdOf C) → RaftStateIn K N I L C
     → TakeTests
 take_tests eq cmp prev es id s = record tests_hold {
-  keeps = keeps_committed cmp (new_of eq s es) s;
-  order = are_in_order cmp prev es && are_in_order cmp (last_before (new_of eq s es) s) (new_of eq s es);
-  members = has_members_in_order cmp (new_of eq s es) id s;
-  has = has_committed_with eq cmp (full_log s.log_ids) s.committed (new_of eq s es) id;
+  keeps = keeps_committed cmp (entries_to_append eq s es) s;
+  order = are_in_order cmp prev es
+      && are_in_order cmp (last_before (entries_to_append eq s es) s) (entries_to_append eq s es);
+  members = has_members_in_order cmp (entries_to_append eq s es) id s;
+  has = has_committed_with eq cmp (full_log s.log_ids) s.committed (entries_to_append eq s es) id;
 }
 
 -- the tests of a request to append entries: of its entries, or that the log may be truncated at `prev`
@@ -190,19 +192,19 @@ pub record Took {K N I L C D : Type 0} (ord : OrdMembers C) (id_eq : K → K →
   pub has_prev : IsTrue (purged_or_logged ord.eq new prev)
   pub has_entries : IsTrue (has_all ord.eq new es)
   pub in_order : IsTrue (are_in_order ord.cmp prev es)
-  pub may : IsTrue (may_replace ord.cmp (new_of ord.eq old es) old)
-  pub allowed : IsTrue (has_members_in_order ord.cmp (new_of ord.eq old es) id old)
+  pub may : IsTrue (may_replace ord.cmp (entries_to_append ord.eq old es) old)
+  pub allowed : IsTrue (has_members_in_order ord.cmp (entries_to_append ord.eq old es) id old)
   pub log : IsTrue (same_log ord.eq (full_log new.log_ids)
-      (log_with_new (full_log old.log_ids) (new_of ord.eq old es)))
-  pub kept : KeepsBelow ord.eq (replaced_since (full_log old.log_ids) (new_of ord.eq old es))
+      (log_with_new (full_log old.log_ids) (entries_to_append ord.eq old es)))
+  pub kept : KeepsBelow ord.eq (replaced_since (full_log old.log_ids) (entries_to_append ord.eq old es))
       (full_log old.log_ids) (full_log new.log_ids)
-  pub nothing_new : new_of ord.eq old es ≡ [] → new.log_ids ≡ old.log_ids
+  pub nothing_new : entries_to_append ord.eq old es ≡ [] → new.log_ids ≡ old.log_ids
   pub ends : last_id (full_log new.log_ids)
-      ≡ option_or (last_id (entry_ids (new_of ord.eq old es))) (last_id (full_log old.log_ids))
-  pub memberships : TakesMemberships ord.cmp id_eq same (new_of ord.eq old es) id old
+      ≡ option_or (last_id (entry_ids (entries_to_append ord.eq old es))) (last_id (full_log old.log_ids))
+  pub memberships : TakesMemberships ord.cmp id_eq same (entries_to_append ord.eq old es) id old
       new.membership_state
-  pub accepted : new.accepted ≡ accepted_before ord.cmp (new_of ord.eq old es) old
-  pub committed : new.committed ≡ greatest ord.cmp old.committed id
+  pub accepted : new.accepted ≡ accepted_before ord.cmp (entries_to_append ord.eq old es) old
+  pub committed : new.committed ≡ greater_id ord.cmp old.committed id
   pub has_committed : IsTrue (id_lt ord.cmp old.committed id)
       → IsTrue (has_id ord.eq (full_log new.log_ids) id)
 
@@ -220,9 +222,9 @@ pub record CutAt {K N I L C : Type 0} (ord : OrdMembers C) (at : ℕ) (prev : Op
 abbrev pub Answers : {K N I L C D : Type 0} → OrdMembers C → (K → K → Bool) → (N → N → Bool)
     → AppendEntries L C K N D → Outcome L C → (old new : RaftStateIn K N I L C) → Type 0
 Answers ord id_eq same request (Matches upto) old new =
-    (upto ≡ last_of request.prev request.entries.items)
+    (upto ≡ last_id_of_request request.prev request.entries.items)
     × Took ord id_eq same request.prev request.entries.items
-    (least ord.cmp request.committed (last_of request.prev request.entries.items)) old new
+    (lesser_id ord.cmp request.committed (last_id_of_request request.prev request.entries.items)) old new
 Answers ord id_eq same request (Conflict at last) old new =
     CutAt ord at request.prev old new × (last ≡ index_of (last_id (full_log new.log_ids)))
 Answers ord id_eq same request (HigherVote vote) old new = (vote ≡ vote_of old) × (new ≡ old)
@@ -232,7 +234,7 @@ pub record HadPrev {K N I L C D : Type 0} (ord : OrdMembers C) (prev : Option (L
     (es : List (EntryOf C K N D)) (old : RaftStateIn K N I L C) : Type 0 where
   pub has_prev : IsTrue (purged_or_logged ord.eq old prev)
   pub in_order : IsTrue (are_in_order ord.cmp prev es)
-  pub keeps : IsTrue (keeps_committed ord.cmp (new_of ord.eq old es) old)
+  pub keeps : IsTrue (keeps_committed ord.cmp (entries_to_append ord.eq old es) old)
 
 -- what an error leaves of the log, the memberships and what is accepted: all is as it was; or the log
 -- had `prev`, and all is cut off at the first new entry, or the new entries are there too
@@ -241,8 +243,8 @@ abbrev pub IsLeftBy : {K N I L C D : Type 0} → OrdMembers C → (K → K → B
 IsLeftBy ord id_eq same prev es old new =
     IsLogKept old new
     ⊎ (HadPrev ord prev es old
-    × (IsCutBefore ord.cmp (new_of ord.eq old es) old new
-    ⊎ HasReplaced ord id_eq same (new_of ord.eq old es) old new))
+    × (IsCutBefore ord.cmp (entries_to_append ord.eq old es) old new
+    ⊎ HasReplaced ord id_eq same (entries_to_append ord.eq old es) old new))
 
 -- entries were refused by one of these tests, or an allocation failed. Below the first new entry the
 -- log is as it was, and what is committed is as it was. The vote may have changed
@@ -250,7 +252,7 @@ pub record Refused {K N I L C D : Type 0} (ord : OrdMembers C) (id_eq : K → K 
     (same : N → N → Bool) (tests : TakeTests) (prev : Option (LogIdOf C)) (es : List (EntryOf C K N D))
     (refusal : AppendError) (old new : RaftStateIn K N I L C) : Type 0 where
   pub reason : RefusedUnless tests refusal
-  pub kept : KeepsBelow ord.eq (replaced_since (full_log old.log_ids) (new_of ord.eq old es))
+  pub kept : KeepsBelow ord.eq (replaced_since (full_log old.log_ids) (entries_to_append ord.eq old es))
       (full_log old.log_ids) (full_log new.log_ids)
   pub left : IsLeftBy ord id_eq same prev es old new
   pub rest : new ≡ record old {
@@ -266,5 +268,6 @@ abbrev pub Refuses : {K N I L C D : Type 0} → OrdMembers C → (K → K → Bo
 Refuses ord id_eq same request refusal old new =
     Refused ord id_eq same
     (append_tests (purged_or_logged ord.eq old request.prev) ord.eq ord.cmp request.prev
-    request.entries.items (least ord.cmp request.committed
-    (last_of request.prev request.entries.items)) old) request.prev request.entries.items refusal old new
+    request.entries.items (lesser_id ord.cmp request.committed
+    (last_id_of_request request.prev request.entries.items)) old)
+    request.prev request.entries.items refusal old new

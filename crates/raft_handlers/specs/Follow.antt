@@ -10,20 +10,20 @@ use Rattle.raft_state.specs.raft_state.VoteAndLog.{vote_of}
 use Rattle.raft_state.specs.declared.raft_state.RaftStateIn.{RaftStateIn}
 
 -- the vote that an elected leader's requests stand for
-abbrev pub elected : {L : Type 0} → L → VoteIn L
-elected leader = record { leader_id = leader; committed = true }
+abbrev pub committed_vote_of : {L : Type 0} → L → VoteIn L
+committed_vote_of leader = record { leader_id = leader; committed = true }
 
 -- a server follows a leader: the leader's vote is at least the server's own
 abbrev pub is_followed : {K N I L C : Type 0} → (L → L → Option Ordering) → L → RaftStateIn K N I L C
     → Bool
-is_followed order leader s = partial_ge (vote_cmp order) (elected leader) (vote_of s)
+is_followed order leader s = partial_ge (vote_cmp order) (committed_vote_of leader) (vote_of s)
 
 -- the vote of a server that has heard a leader: the leader's vote at the same moment, if the leader is
 -- followed
 abbrev pub vote_heard : {K N I L C : Type 0} → (L → L → Option Ordering) → L → RaftStateIn K N I L C
     → UTime (VoteIn L) I
 vote_heard order leader s =
-    if is_followed order leader s then utime_of (elected leader) (moment_of s.vote) else s.vote
+    if is_followed order leader s then utime_of (committed_vote_of leader) (moment_of s.vote) else s.vote
 
 -- a server that has heard a leader: its vote alone has changed
 abbrev pub heard : {K N I L C : Type 0} → (L → L → Option Ordering) → L → RaftStateIn K N I L C

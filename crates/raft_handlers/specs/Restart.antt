@@ -6,7 +6,7 @@ use Rattle.raft_base.specs.LogId.{id_lt, next_index}
 use Rattle.raft_base.specs.UTime.{moment_of}
 use Rattle.raft_base.specs.declared.log_id.LogIdOf.{LogIdOf}
 use Rattle.raft_base.specs.declared.server_state.ServerState.TheVariants.{Learner}
-use Rattle.raft_handlers.specs.Append.{greatest}
+use Rattle.raft_handlers.specs.Append.{greater_id}
 use Rattle.raft_handlers.specs.Entries.{
   allows_commit_past,
   are_in_order,
@@ -127,7 +127,7 @@ abbrev pub known_committed : {K N C : Type 0} → (C → C → Bool) → (C → 
     → List (LogIdOf C) → Option (LogIdOf C) → Memberships C K N → Option (LogIdOf C)
 known_committed eq cmp log before m =
     if has_id eq log (log_id_of m.committed) && may_commit cmp (log_id_of m.committed) m
-    then greatest cmp before (log_id_of m.committed) else before
+    then greater_id cmp before (log_id_of m.committed) else before
 
 -- what is known to be committed is committed, and with it the effective membership if it is not past
 -- that
@@ -149,7 +149,7 @@ pub record Restores {K N I L C D : Type 0} (ord : OrdMembers C) (id_eq : K → K
   pub snapshot : IsSnapshotAt id_eq same meta.last_log_id meta s.snapshot_meta
   pub committed : (m : Memberships C K N) × AppendsStored ord.cmp id_eq same meta
       (entries_past ord.eq meta.last_log_id stored) known m
-      × CommitsKnown ord.eq ord.cmp (greatest ord.cmp meta.last_log_id known) m s
+      × CommitsKnown ord.eq ord.cmp (greater_id ord.cmp meta.last_log_id known) m s
 
 -- why a restart is refused: the snapshot does not fit; the entries past it are not in order, or their
 -- memberships are not; the log does not have what is stored as committed; or an allocation failed

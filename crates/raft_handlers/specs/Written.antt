@@ -22,7 +22,7 @@ use Rattle.std.specs.Prelude.{
 use Rattle.std.specs.declared.cmp.Ordering.{Ordering}
 use Rattle.raft_base.specs.LogId.{id_lt}
 use Rattle.raft_base.specs.declared.log_id.LogIdOf.{LogIdOf}
-use Rattle.raft_handlers.specs.Append.{new_of}
+use Rattle.raft_handlers.specs.Append.{entries_to_append}
 use Rattle.raft_handlers.specs.Campaign.{same_vote}
 use Rattle.raft_handlers.specs.Entries.{ends_before, entry_ids, has_id}
 use Rattle.raft_handlers.specs.declared.changes.Changes.{Changes}
@@ -64,7 +64,7 @@ risen_to cmp old new = if id_lt cmp old new then new else None
 -- how many entries of a request are new in the log, by the answer
 abbrev pub count_new : {K N I L C D : Type 0} → (C → C → Bool) → Outcome L C
     → List (EntryOf C K N D) → RaftStateIn K N I L C → ℕ
-count_new eq (Matches upto) es s = length (new_of eq s es)
+count_new eq (Matches upto) es s = length (entries_to_append eq s es)
 count_new eq (Conflict at last) es s = 0
 count_new eq (HigherVote vote) es s = 0
 

@@ -2,7 +2,7 @@
 ghost use Rattle.std.specs.Prelude.{◌≡◌, ◌≤◌, length, false, Ok, IsTrue, IfOk, IfErr, IfSome, IfNone, OnOk};
 ghost use Rattle.std.specs.List.{prefix_len};
 ghost use Rattle.std.specs.Set.{ClonesAreEqual};
-ghost use Rattle.raft_handlers.specs.Append.{has_entry, least, take_tests, Answers, IfHigherVote, IsConflict, Refused, Refuses, Took};
+ghost use Rattle.raft_handlers.specs.Append.{has_entry, lesser_id, take_tests, Answers, IfHigherVote, IsConflict, Refused, Refuses, Took};
 ghost use Rattle.raft_handlers.specs.Follow.{is_followed, vote_heard};
 ghost use Rattle.raft_handlers.specs.Honest.{IsHonest};
 ghost use Rattle.raft_handlers.specs.Written.{no_changes, Writes, WritesLog};
@@ -150,7 +150,7 @@ fn match_log<NID: NodeId, N: Node, I: Instant, L: Drop, C: Ord + Copy + Drop, D>
         return Ok((Outcome::Matches(request.prev), changes));
     }
     let last = request.last_log_id();
-    let committed = least(request.committed, last);
+    let committed = lesser_id(request.committed, last);
     let changes = take_entries(state, request.prev, &request.entries, committed)?;
     Ok((Outcome::Matches(last), changes))
 }
@@ -211,8 +211,8 @@ fn take_entries<NID: NodeId, N: Node, I: Instant, L: Drop, C: Ord + Copy + Drop,
 }
 
 /// Returns the lesser one of two log ids that may be absent.
-fn least<C: Ord + Copy>(a: Option<LogIdOf<C>>, b: Option<LogIdOf<C>>) -> Option<LogIdOf<C>>
-    ensures { result ≡ least C.cmp a b }
+fn lesser_id<C: Ord + Copy>(a: Option<LogIdOf<C>>, b: Option<LogIdOf<C>>) -> Option<LogIdOf<C>>
+    ensures { result ≡ lesser_id C.cmp a b }
 {
     if log_id_below(a, b) { a } else { b }
 }

@@ -3,7 +3,7 @@
 //! `L` is a leader id as a vote has it, and `C` the committed leader id, as a log id has it.
 
 ghost use Rattle.std.specs.Prelude.{◌≡◌};
-ghost use Rattle.raft_handlers.specs.Append.{last_of};
+ghost use Rattle.raft_handlers.specs.Append.{last_id_of_request};
 
 use raft_base::{LogIdOf, Node, NodeId, RaftLogId, VoteIn};
 use raft_state::{EntryOf, SnapshotMetaOf};
@@ -85,7 +85,7 @@ impl<L, C: Copy, NID: NodeId, N: Node, D> AppendEntries<L, C, NID, N, D> {
     /// Returns the last log id that the request speaks of: that of the last entry, or `prev` if
     /// there are no entries.
     pub fn last_log_id(&self) -> Option<LogIdOf<C>>
-        ensures { result ≡ last_of self.now.prev self.now.entries.items }
+        ensures { result ≡ last_id_of_request self.now.prev self.now.entries.items }
     {
         match self.entries.last() {
             Some(entry) => Some(*entry.get_log_id()),

@@ -37,7 +37,7 @@ use Rattle.raft_handlers.specs.Append.{Answers, IfHigherVote}
 use Rattle.raft_handlers.specs.Campaign.{Campaign, Campaigns, CountsVoteOf, grants_vote, has_vote_of, is_counted, same_vote}
 use Rattle.raft_handlers.specs.Compared.{LeaderMembers, compared}
 use Rattle.raft_handlers.specs.Entries.{entry_ids}
-use Rattle.raft_handlers.specs.Follow.{elected, heard, is_followed, vote_heard}
+use Rattle.raft_handlers.specs.Follow.{committed_vote_of, heard, is_followed, vote_heard}
 use Rattle.raft_handlers.specs.Leadership.{BecomesLeader, Commits, Leadership, MajorityMatches, entry_of, granted_by, is_of_leader}
 use Rattle.raft_handlers.specs.Snapshot.{AnswersSnapshot, RefusedFor, snapshot_refusal}
 use Rattle.raft_handlers.specs.declared.error.AppendError.{AppendError}
@@ -157,7 +157,7 @@ unheard : {K N I L C : Type 0} (kind : LeaderMembers L K C) (leader : L) (s : Ra
 unheard kind leader s none = by (is_followed kind.order leader s) none
   where
     by : (b : Bool) → b ≡ false
-        → (record s { vote = if b then utime_of (elected leader) (moment_of s.vote) else s.vote }) ≡ s
+        → (record s { vote = if b then utime_of (committed_vote_of leader) (moment_of s.vote) else s.vote }) ≡ s
     by false e = refl
     by true e = absurd (true≢false e)
 

@@ -56,7 +56,7 @@ use Rattle.raft_handlers.proofs.lemmas.TakeLemmas.{
   commit_snapshot,
   commit_takes,
 }
-use Rattle.raft_handlers.specs.Append.{greatest, memberships_before, TakesMemberships}
+use Rattle.raft_handlers.specs.Append.{greater_id, memberships_before, TakesMemberships}
 use Rattle.raft_handlers.specs.Entries.{
   allows_commit_past,
   effective_before,
@@ -370,7 +370,7 @@ module _ {K N I L C : Type 0} (id_eq : K → K → Bool) (same : N → N → Boo
           let logs : end.log_ids ≡ mid.log_ids = ap (λ t. t.log_ids) rest ∙ commit_log ord.cmp committed mid after commits in
           let takes = commit_takes ord id_eq same new committed s mid replaced after commits in
           let stays : mid.committed ≡ s.committed = ap (λ t. t.committed) replaced.rest in
-          let now : after.committed ≡ greatest ord.cmp meta.last_log_id committed =
+          let now : after.committed ≡ greater_id ord.cmp meta.last_log_id committed =
           rw (rw alone.committed at stays) at (commit_committed ord.cmp committed mid after commits) in
           record {
             log = rw (is, logs) (rw b.4 at replaced.log);
