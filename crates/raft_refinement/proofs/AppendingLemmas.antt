@@ -67,19 +67,8 @@ use Rattle.raft_refinement.proofs.Calls.{
   purged_or_logged,
   since_of,
 }
-use Rattle.raft_refinement.specs.Server.{
-  AreRanked,
-  IsIdAt,
-  IsInLog,
-  IsLastId,
-  IsServer,
-  IsWhole,
-  KnowsCommitted,
-  Leaders,
-  Place,
-  ShowsLog,
-  State,
-}
+use Rattle.raft_refinement.specs.Server.{AreRanked, IsIdAt, IsInLog, IsLastId, IsServer, KnowsCommitted, Leaders, Place, ShowsLog, State}
+use Rattle.raft_refinement.proofs.Whole.{IsWhole}
 use Rattle.raft_refinement.specs.Appending.{AllInLog, Follows, InLogIfAny, IsSent, Truncates}
 use Rattle.raft_safety.proofs.lemmas.PrefixLemmas.{
   prefix_itself,

@@ -42,7 +42,8 @@ use Rattle.raft_state.specs.log_id_list.LogEdits.{front}
 use Rattle.raft_state.specs.log_id_list.LogReads.{id_at, last_id}
 use Rattle.raft_refinement.specs.Appending.{Follows, IsSent, IsSnapshotSent, Truncates}
 use Rattle.raft_refinement.specs.Electing.{KnowsMatches, KnowsVotes}
-use Rattle.raft_refinement.specs.Server.{AreRanked, IsInLog, IsServer, IsWhole, Leaders, Place, State}
+use Rattle.raft_refinement.specs.Server.{AreRanked, IsInLog, IsServer, Leaders, Place, State}
+use Rattle.raft_refinement.proofs.Whole.{IsWhole}
 use Rattle.raft_refinement.specs.Voting.{IsAsked, VotesByRule}
 
 -- what the contract of `handle_append_entries` speaks of, over log ids: a log id is absent, its index is

@@ -69,7 +69,8 @@ use Rattle.raft_state.proofs.lemmas.sound.LoggedIds.{ends_before, in_log, in_ord
 use Rattle.raft_state.proofs.lemmas.sound.SoundCalls.{purge_before, purge_point_in}
 use Rattle.raft_state.proofs.lemmas.validate.RelationLemmas.{all_hold}
 use Rattle.raft_refinement.specs.Seen.{leaders_of, seen}
-use Rattle.raft_refinement.specs.Server.{IsWhole, Place}
+use Rattle.raft_refinement.specs.Server.{Place}
+use Rattle.raft_refinement.proofs.Whole.{IsWhole}
 use Rattle.raft_refinement.proofs.Calls.{
   AppendConflicts,
   AppendMatches,

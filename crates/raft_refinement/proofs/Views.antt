@@ -9,7 +9,8 @@ use Rattle.std.specs.Ordering.{partial_ge}
 use Rattle.raft_safety.specs.Events.{History}
 use Rattle.raft_state.specs.log_id_list.LogReads.{id_at, last_id}
 use Rattle.raft_safety.specs.Ranks.{IsAmong}
-use Rattle.raft_refinement.specs.Server.{IsWhole, State}
+use Rattle.raft_refinement.specs.Server.{State}
+use Rattle.raft_refinement.proofs.Whole.{IsWhole}
 use Rattle.raft_handlers.specs.Follow.{committed_vote_of}
 use Rattle.raft_refinement.proofs.Calls.{AppendConflicts, AppendMatches, HandlesVoteRequest, InstallMatches}
 use Rattle.raft_refinement.proofs.Stepping.{SeenCluster, IsSeenCluster, at_server}

@@ -71,7 +71,8 @@ use Rattle.raft_state.proofs.lemmas.log_id_list.ExtendLemmas.{is_key_list}
 use Rattle.raft_refinement.specs.Appending.{AnswersByRule, Follows, IsSent, IsSnapshotSentTo}
 use Rattle.raft_refinement.specs.Electing.{HasCommitted, KnowsMatches, KnowsVotes, match_of}
 use Rattle.raft_refinement.specs.Seen.{leaders_of, seen}
-use Rattle.raft_refinement.specs.Server.{IsInHistory, IsInLog, IsServer, IsWhole, KnowsCommitted, Leaders, Place, State}
+use Rattle.raft_refinement.specs.Server.{IsInHistory, IsInLog, IsServer, KnowsCommitted, Leaders, Place, State}
+use Rattle.raft_refinement.proofs.Whole.{IsWhole}
 use Rattle.raft_refinement.specs.Voting.{CampaignsByRule}
 use Rattle.raft_refinement.proofs.AppendingLemmas.{appends_keep_rules, at_within, installs_keep_rules}
 use Rattle.raft_refinement.proofs.ElectingLemmas.{commits_by_rule, counts_keep_votes, elects_by_rule}
