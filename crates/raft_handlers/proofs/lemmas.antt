@@ -1,6 +1,7 @@
 pub mod AppendLemmas
 pub mod ChangeLemmas
 pub mod CutLemmas
+pub mod EntryLemmas
 pub mod ExtendLemmas
 pub mod FollowerLemmas
 pub mod GrantedLemmas
@@ -17,5 +18,6 @@ pub mod TakeLemmas
 pub mod TallyLemmas
 pub mod TermLemmas
 pub mod TrackedLemmas
+pub mod UnacceptedLemmas
 pub mod VoteLemmas
 pub mod WrittenLemmas

@@ -1,24 +1,5 @@
 -- What a follower makes of a leader's request to append entries.
-use Rattle.std.specs.Prelude.{
-  ◌≡◌,
-  ℕ,
-  ◌<◌,
-  Bool,
-  true,
-  false,
-  ◌&&◌,
-  ◌⊎◌,
-  ◌++◌,
-  List,
-  [],
-  ◌∷◌,
-  Option,
-  Some,
-  None,
-  IsTrue,
-  drop,
-  if◌then◌else◌,
-}
+use Rattle.std.specs.Prelude.{◌≡◌, ℕ, ◌<◌, Bool, true, false, ◌&&◌, ◌⊎◌, List, [], ◌∷◌, Option, Some, None, IsTrue, drop, if◌then◌else◌}
 use Rattle.std.specs.List.{list_all, prefix_len}
 use Rattle.std.specs.Option.{option_or}
 use Rattle.std.specs.declared.cmp.Ordering.{Ordering}
@@ -28,13 +9,10 @@ use Rattle.raft_base.specs.declared.vote.VoteIn.{VoteIn}
 use Rattle.raft_handlers.specs.Entries.{
   accepted_below,
   are_in_order,
-  effective_before,
-  effective_with,
   entry_ids,
   has_committed_with,
   has_id,
   has_members_in_order,
-  has_memberships_in_order,
   keeps_committed,
   last_before,
   log_with_new,
@@ -50,13 +28,11 @@ use Rattle.raft_handlers.specs.declared.error.AppendError.{AppendError}
 use Rattle.raft_handlers.specs.declared.message.AppendEntries.{AppendEntries}
 use Rattle.raft_handlers.specs.declared.message.Outcome.{Outcome}
 use Rattle.raft_handlers.specs.declared.message.Outcome.TheVariants.{Matches, Conflict, HigherVote}
-use Rattle.raft_members.specs.membership.Stored.{log_id_of}
 use Rattle.raft_progress.specs.progress.Comparisons.{OrdMembers}
 use Rattle.raft_state.specs.raft_state.Appended.{AppendsMemberships}
 use Rattle.raft_state.specs.entry.Entry.{payload_membership}
 use Rattle.raft_state.specs.log_id_list.FullLog.{end_index, full_log, same_log}
 use Rattle.raft_state.specs.log_id_list.LogEdits.{front}
-use Rattle.raft_state.specs.log_id_list.LogKept.{HasIds, KeepsIds}
 use Rattle.raft_state.specs.log_id_list.LogReads.{id_at, last_id}
 use Rattle.raft_state.specs.membership_state.MembershipMoves.{after_commit}
 use Rattle.raft_state.specs.membership_state.Memberships.{Memberships}
@@ -73,9 +49,9 @@ IfHigherVote (Conflict at last) p = Unit {0}
 IfHigherVote (HigherVote vote) p = p vote
 
 -- the log id of the last of these entries, or `prev` where there is none
-abbrev pub last_of : {C K N D : Type 0} → Option (LogIdOf C) → List (EntryOf C K N D)
+abbrev pub last_id_of_request : {C K N D : Type 0} → Option (LogIdOf C) → List (EntryOf C K N D)
     → Option (LogIdOf C)
-last_of prev es = option_or (last_id (entry_ids es)) prev
+last_id_of_request prev es = option_or (last_id (entry_ids es)) prev
 
 -- the log of a state has an entry, or its index is purged
 abbrev pub has_entry : {K N I L C D : Type 0} → (C → C → Bool) → RaftStateIn K N I L C
@@ -88,9 +64,9 @@ abbrev pub has_all : {K N I L C D : Type 0} → (C → C → Bool) → RaftState
 has_all eq s es = list_all (has_entry eq s) es
 
 -- the first entry that a log does not have, and those after it
-abbrev pub new_of : {K N I L C D : Type 0} → (C → C → Bool) → RaftStateIn K N I L C
+abbrev pub entries_to_append : {K N I L C D : Type 0} → (C → C → Bool) → RaftStateIn K N I L C
     → List (EntryOf C K N D) → List (EntryOf C K N D)
-new_of eq s es = drop (prefix_len (has_entry eq s) es) es
+entries_to_append eq s es = drop (prefix_len (has_entry eq s) es) es
 
 -- the index from which on new entries take the place of a log: past its end if there are none
 abbrev pub replaced_since : {C K N D : Type 0} → List (LogIdOf C) → List (EntryOf C K N D) → ℕ
@@ -104,14 +80,14 @@ KeepsBelow eq since old new =
     (i : ℕ) → i < since → IsTrue (same_ids eq (id_at new i) (id_at old i))
 
 -- the lesser one of two log ids
-abbrev pub least : {C : Type 0} → (C → C → Ordering) → Option (LogIdOf C) → Option (LogIdOf C)
+abbrev pub lesser_id : {C : Type 0} → (C → C → Ordering) → Option (LogIdOf C) → Option (LogIdOf C)
     → Option (LogIdOf C)
-least cmp a b = if id_lt cmp a b then a else b
+lesser_id cmp a b = if id_lt cmp a b then a else b
 
 -- the greater one of two log ids
-abbrev pub greatest : {C : Type 0} → (C → C → Ordering) → Option (LogIdOf C)
+abbrev pub greater_id : {C : Type 0} → (C → C → Ordering) → Option (LogIdOf C)
     → Option (LogIdOf C) → Option (LogIdOf C)
-greatest cmp a b = if id_lt cmp a b then b else a
+greater_id cmp a b = if id_lt cmp a b then b else a
 
 -- the log of a state before these new entries are appended
 abbrev pub log_before : {K N I L C D : Type 0} → List (EntryOf C K N D) → RaftStateIn K N I L C
@@ -141,64 +117,6 @@ TakesMemberships {K} {N} {I} {L} {C} cmp eq same new upto s m =
     (λ e. payload_membership e.payload) new (memberships_before new s) appended
     × (m ≡ (if id_lt cmp s.committed upto then after_commit cmp upto appended else appended))
 
--- a log was truncated at an index, unless it ended before it, and with it what was accepted and the
--- memberships; nothing that is committed was lost
-pub record IsCut {K N I L C : Type 0} (ord : OrdMembers C) (since : ℕ) (old new : RaftStateIn K N I L C)
-    : Type 0 where
-  pub keeps : IsTrue (may_cut ord.cmp since old)
-  pub log : full_log new.log_ids ≡ front (full_log old.log_ids) since
-  pub memberships : new.membership_state ≡ memberships_below since old
-  pub accepted : new.accepted ≡ accepted_below ord.cmp since old
-  pub rest : new ≡ record old {
-    log_ids = new.log_ids;
-    membership_state = new.membership_state;
-    accepted = new.accepted;
-  }
-
--- these entries took the place of the log from the index of the first one on, and their memberships
--- are effective:
--- - the tests that they passed, and the log afterwards;
--- - below the first entry the log is as it was, and it has each entry;
--- - what that makes of the memberships and of what is accepted; nothing else changed.
-pub record Replaces {K N I L C D : Type 0} (ord : OrdMembers C) (id_eq : K → K → Bool)
-    (same : N → N → Bool) (es : List (EntryOf C K N D)) (old new : RaftStateIn K N I L C) : Type 0 where
-  pub keeps : IsTrue (keeps_committed ord.cmp es old)
-  pub order : IsTrue (are_in_order ord.cmp (last_before es old) es)
-  pub members : IsTrue (has_memberships_in_order ord.cmp (effective_before es old) es)
-  pub log : IsTrue (same_log ord.eq (full_log new.log_ids) (log_with_new (full_log old.log_ids) es))
-  pub kept : KeepsBelow ord.eq (replaced_since (full_log old.log_ids) es) (full_log old.log_ids)
-      (full_log new.log_ids)
-  pub nothing_new : es ≡ [] → new.log_ids ≡ old.log_ids
-  pub own : HasIds ord.eq (entry_ids es) (full_log new.log_ids)
-  pub ends : last_id (full_log new.log_ids)
-      ≡ option_or (last_id (entry_ids es)) (last_id (full_log old.log_ids))
-  pub memberships : AppendsMemberships id_eq same (λ e. e.log_id) (λ e. payload_membership e.payload) es
-      (memberships_before es old) new.membership_state
-  pub effective : log_id_of new.membership_state.effective ≡ effective_with (effective_before es old) es
-  pub accepted : new.accepted ≡ accepted_before ord.cmp es old
-  pub rest : new ≡ record old {
-    log_ids = new.log_ids;
-    membership_state = new.membership_state;
-    accepted = new.accepted;
-  }
-
--- these entries are appended to a log that they may be appended to, and their memberships are
--- effective:
--- - the log ids of the log afterwards, of which the last one is that of the last entry;
--- - what that makes of the memberships; nothing else changed.
-pub record Extends {K N I L C D : Type 0} (eq : C → C → Bool) (id_eq : K → K → Bool)
-    (same : N → N → Bool) (es : List (EntryOf C K N D)) (old new : RaftStateIn K N I L C) : Type 0 where
-  pub log : IsTrue (same_log eq (full_log new.log_ids) (full_log old.log_ids ++ entry_ids es))
-  pub last : last_id (full_log new.log_ids)
-      ≡ option_or (last_id (entry_ids es)) (last_id (full_log old.log_ids))
-  pub kept : KeepsIds eq (full_log old.log_ids) (full_log new.log_ids)
-  pub own : HasIds eq (entry_ids es) (full_log new.log_ids)
-  pub memberships : AppendsMemberships id_eq same (λ e. e.log_id) (λ e. payload_membership e.payload) es
-      old.membership_state new.membership_state
-  pub effective : log_id_of new.membership_state.effective
-      ≡ effective_with (log_id_of old.membership_state.effective) es
-  pub rest : new ≡ record old { log_ids = new.log_ids; membership_state = new.membership_state }
-
 -- the log, the memberships and what is accepted are as they were
 pub record IsLogKept {K N I L C : Type 0} (old new : RaftStateIn K N I L C) : Type 0 where
   pub log : new.log_ids ≡ old.log_ids
@@ -220,19 +138,6 @@ pub record HasReplaced {K N I L C D : Type 0} (ord : OrdMembers C) (id_eq : K �
       (memberships_before es old) new.membership_state
   pub accepted : new.accepted ≡ accepted_before ord.cmp es old
 
--- entries were refused, or an allocation failed, before they were in the log: all is as it was, or cut
--- off at the first one
-pub record Stops {K N I L C D : Type 0} (ord : OrdMembers C) (es : List (EntryOf C K N D))
-    (old new : RaftStateIn K N I L C) : Type 0 where
-  pub left : IsLogKept old new ⊎ (IsTrue (keeps_committed ord.cmp es old) × IsCutBefore ord.cmp es old new)
-  pub kept : KeepsBelow ord.eq (replaced_since (full_log old.log_ids) es) (full_log old.log_ids)
-      (full_log new.log_ids)
-  pub rest : new ≡ record old {
-    log_ids = new.log_ids;
-    membership_state = new.membership_state;
-    accepted = new.accepted;
-  }
-
 -- a log id has this index, and the log does not have it, nor is its index purged
 abbrev pub IsConflict : {K N I L C : Type 0} → (C → C → Bool) → ℕ → Option (LogIdOf C)
     → RaftStateIn K N I L C → Type 0
@@ -252,7 +157,8 @@ abbrev pub may_take : {K N I L C D : Type 0} → (C → C → Bool) → (C → C
 may_take eq cmp prev es committed s =
     if purged_or_logged eq s prev
     then are_in_order cmp prev es
-    && may_take_new eq cmp (new_of eq s es) (least cmp committed (last_of prev es)) s
+    && may_take_new eq cmp (entries_to_append eq s es)
+    (lesser_id cmp committed (last_id_of_request prev es)) s
     else may_cut_at cmp prev s
 
 -- the tests of entries after a log id that the log has, and of a log id that is to be committed with
@@ -261,10 +167,11 @@ abbrev pub take_tests : {K N I L C D : Type 0} → (C → C → Bool) → (C →
     → Option (LogIdOf C) → List (EntryOf C K N D) → Option (LogIdOf C) → RaftStateIn K N I L C
     → TakeTests
 take_tests eq cmp prev es id s = record tests_hold {
-  keeps = keeps_committed cmp (new_of eq s es) s;
-  order = are_in_order cmp prev es && are_in_order cmp (last_before (new_of eq s es) s) (new_of eq s es);
-  members = has_members_in_order cmp (new_of eq s es) id s;
-  has = has_committed_with eq cmp (full_log s.log_ids) s.committed (new_of eq s es) id;
+  keeps = keeps_committed cmp (entries_to_append eq s es) s;
+  order = are_in_order cmp prev es
+      && are_in_order cmp (last_before (entries_to_append eq s es) s) (entries_to_append eq s es);
+  members = has_members_in_order cmp (entries_to_append eq s es) id s;
+  has = has_committed_with eq cmp (full_log s.log_ids) s.committed (entries_to_append eq s es) id;
 }
 
 -- the tests of a request to append entries: of its entries, or that the log may be truncated at `prev`
@@ -285,19 +192,19 @@ pub record Took {K N I L C D : Type 0} (ord : OrdMembers C) (id_eq : K → K →
   pub has_prev : IsTrue (purged_or_logged ord.eq new prev)
   pub has_entries : IsTrue (has_all ord.eq new es)
   pub in_order : IsTrue (are_in_order ord.cmp prev es)
-  pub may : IsTrue (may_replace ord.cmp (new_of ord.eq old es) old)
-  pub allowed : IsTrue (has_members_in_order ord.cmp (new_of ord.eq old es) id old)
+  pub may : IsTrue (may_replace ord.cmp (entries_to_append ord.eq old es) old)
+  pub allowed : IsTrue (has_members_in_order ord.cmp (entries_to_append ord.eq old es) id old)
   pub log : IsTrue (same_log ord.eq (full_log new.log_ids)
-      (log_with_new (full_log old.log_ids) (new_of ord.eq old es)))
-  pub kept : KeepsBelow ord.eq (replaced_since (full_log old.log_ids) (new_of ord.eq old es))
+      (log_with_new (full_log old.log_ids) (entries_to_append ord.eq old es)))
+  pub kept : KeepsBelow ord.eq (replaced_since (full_log old.log_ids) (entries_to_append ord.eq old es))
       (full_log old.log_ids) (full_log new.log_ids)
-  pub nothing_new : new_of ord.eq old es ≡ [] → new.log_ids ≡ old.log_ids
+  pub nothing_new : entries_to_append ord.eq old es ≡ [] → new.log_ids ≡ old.log_ids
   pub ends : last_id (full_log new.log_ids)
-      ≡ option_or (last_id (entry_ids (new_of ord.eq old es))) (last_id (full_log old.log_ids))
-  pub memberships : TakesMemberships ord.cmp id_eq same (new_of ord.eq old es) id old
+      ≡ option_or (last_id (entry_ids (entries_to_append ord.eq old es))) (last_id (full_log old.log_ids))
+  pub memberships : TakesMemberships ord.cmp id_eq same (entries_to_append ord.eq old es) id old
       new.membership_state
-  pub accepted : new.accepted ≡ accepted_before ord.cmp (new_of ord.eq old es) old
-  pub committed : new.committed ≡ greatest ord.cmp old.committed id
+  pub accepted : new.accepted ≡ accepted_before ord.cmp (entries_to_append ord.eq old es) old
+  pub committed : new.committed ≡ greater_id ord.cmp old.committed id
   pub has_committed : IsTrue (id_lt ord.cmp old.committed id)
       → IsTrue (has_id ord.eq (full_log new.log_ids) id)
 
@@ -315,9 +222,9 @@ pub record CutAt {K N I L C : Type 0} (ord : OrdMembers C) (at : ℕ) (prev : Op
 abbrev pub Answers : {K N I L C D : Type 0} → OrdMembers C → (K → K → Bool) → (N → N → Bool)
     → AppendEntries L C K N D → Outcome L C → (old new : RaftStateIn K N I L C) → Type 0
 Answers ord id_eq same request (Matches upto) old new =
-    (upto ≡ last_of request.prev request.entries.items)
+    (upto ≡ last_id_of_request request.prev request.entries.items)
     × Took ord id_eq same request.prev request.entries.items
-    (least ord.cmp request.committed (last_of request.prev request.entries.items)) old new
+    (lesser_id ord.cmp request.committed (last_id_of_request request.prev request.entries.items)) old new
 Answers ord id_eq same request (Conflict at last) old new =
     CutAt ord at request.prev old new × (last ≡ index_of (last_id (full_log new.log_ids)))
 Answers ord id_eq same request (HigherVote vote) old new = (vote ≡ vote_of old) × (new ≡ old)
@@ -327,7 +234,7 @@ pub record HadPrev {K N I L C D : Type 0} (ord : OrdMembers C) (prev : Option (L
     (es : List (EntryOf C K N D)) (old : RaftStateIn K N I L C) : Type 0 where
   pub has_prev : IsTrue (purged_or_logged ord.eq old prev)
   pub in_order : IsTrue (are_in_order ord.cmp prev es)
-  pub keeps : IsTrue (keeps_committed ord.cmp (new_of ord.eq old es) old)
+  pub keeps : IsTrue (keeps_committed ord.cmp (entries_to_append ord.eq old es) old)
 
 -- what an error leaves of the log, the memberships and what is accepted: all is as it was; or the log
 -- had `prev`, and all is cut off at the first new entry, or the new entries are there too
@@ -336,8 +243,8 @@ abbrev pub IsLeftBy : {K N I L C D : Type 0} → OrdMembers C → (K → K → B
 IsLeftBy ord id_eq same prev es old new =
     IsLogKept old new
     ⊎ (HadPrev ord prev es old
-    × (IsCutBefore ord.cmp (new_of ord.eq old es) old new
-    ⊎ HasReplaced ord id_eq same (new_of ord.eq old es) old new))
+    × (IsCutBefore ord.cmp (entries_to_append ord.eq old es) old new
+    ⊎ HasReplaced ord id_eq same (entries_to_append ord.eq old es) old new))
 
 -- entries were refused by one of these tests, or an allocation failed. Below the first new entry the
 -- log is as it was, and what is committed is as it was. The vote may have changed
@@ -345,7 +252,7 @@ pub record Refused {K N I L C D : Type 0} (ord : OrdMembers C) (id_eq : K → K 
     (same : N → N → Bool) (tests : TakeTests) (prev : Option (LogIdOf C)) (es : List (EntryOf C K N D))
     (refusal : AppendError) (old new : RaftStateIn K N I L C) : Type 0 where
   pub reason : RefusedUnless tests refusal
-  pub kept : KeepsBelow ord.eq (replaced_since (full_log old.log_ids) (new_of ord.eq old es))
+  pub kept : KeepsBelow ord.eq (replaced_since (full_log old.log_ids) (entries_to_append ord.eq old es))
       (full_log old.log_ids) (full_log new.log_ids)
   pub left : IsLeftBy ord id_eq same prev es old new
   pub rest : new ≡ record old {
@@ -361,5 +268,6 @@ abbrev pub Refuses : {K N I L C D : Type 0} → OrdMembers C → (K → K → Bo
 Refuses ord id_eq same request refusal old new =
     Refused ord id_eq same
     (append_tests (purged_or_logged ord.eq old request.prev) ord.eq ord.cmp request.prev
-    request.entries.items (least ord.cmp request.committed
-    (last_of request.prev request.entries.items)) old) request.prev request.entries.items refusal old new
+    request.entries.items (lesser_id ord.cmp request.committed
+    (last_id_of_request request.prev request.entries.items)) old)
+    request.prev request.entries.items refusal old new

@@ -48,15 +48,15 @@ module _ {K N L C : Type 0} (eq : K → K → Bool) where
 
   -- a node may have voted once all have responded: it has voted for the candidate, or it is not among
   -- those who have refused
-  abbrev pub may_have_vote : Campaign K N L C → (refused : List K) → K → Bool
-  may_have_vote c refused id = has_vote_of c id || not (is_member eq refused id)
+  abbrev pub can_have_vote_of : Campaign K N L C → (refused : List K) → K → Bool
+  can_have_vote_of c refused id = has_vote_of c id || not (is_member eq refused id)
 
   -- those who have voted for the candidate or have not refused are a majority of each config, and there
   -- is a config
   abbrev pub can_have_majorities : Campaign K N L C → (refused : List K) → Bool
   can_have_majorities c refused =
       nat_lt 0 (length c.votes.membership.configs)
-      && is_joint_majority eq c.votes.membership.configs (may_have_vote c refused)
+      && is_joint_majority eq c.votes.membership.configs (can_have_vote_of c refused)
 
   -- the vote of a member is counted, and all else is as it was
   pub record CountsVoteOf (from : K) (old new : Campaign K N L C) : Type 0 where

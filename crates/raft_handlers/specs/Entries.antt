@@ -9,12 +9,7 @@ use Rattle.std.specs.Prelude.{
   ◌-◌,
   ◌&&◌,
   ◌||◌,
-  ◌⊎◌,
-  ◌^◌,
-  nat_eq,
   nat_le,
-  nat_lt,
-  not,
   List,
   [],
   ◌∷◌,
@@ -42,7 +37,6 @@ use Rattle.raft_handlers.specs.declared.error.AppendError.TheVariants.{
 use Rattle.raft_members.specs.membership.Stored.{log_id_of}
 use Rattle.raft_state.specs.Accepted.{accepted_upto}
 use Rattle.raft_state.specs.raft_state.Appended.{are_consecutive, last_stored, memberships_follow}
-use Rattle.raft_state.specs.raft_state.Commit.{state_may_commit}
 use Rattle.raft_state.specs.entry.Entry.{payload_membership}
 use Rattle.raft_state.specs.log_id_list.FullLog.{full_log}
 use Rattle.raft_state.specs.log_id_list.LogConditions.{all_follow}
@@ -58,10 +52,6 @@ use Rattle.raft_state.specs.declared.raft_state.RaftStateIn.{RaftStateIn}
 -- the log ids of entries
 abbrev pub entry_ids : {C K N D : Type 0} → List (EntryOf C K N D) → List (LogIdOf C)
 entry_ids es = map (λ e. e.log_id) es
-
--- an entry stores a membership
-abbrev pub stores_membership : {C K N D : Type 0} → EntryOf C K N D → Bool
-stores_membership e = is_some (payload_membership e.payload)
 
 -- the log ends before an index
 abbrev pub ends_before : {K N I L C : Type 0} → ℕ → RaftStateIn K N I L C → Bool
@@ -218,56 +208,6 @@ abbrev pub has_members_in_order : {K N I L C D : Type 0} → (C → C → Orderi
 has_members_in_order cmp new id s =
     has_memberships_in_order cmp (effective_before new s) new
     && allows_commit_past cmp (effective_with (effective_before new s) new) s.committed id
-
--- the tests of new entries
-abbrev pub new_tests : {K N I L C D : Type 0} → (C → C → Ordering) → List (EntryOf C K N D)
-    → RaftStateIn K N I L C → TakeTests
-new_tests cmp new s = record tests_hold {
-  keeps = keeps_committed cmp new s;
-  order = are_in_order cmp (last_before new s) new;
-  members = has_memberships_in_order cmp (effective_before new s) new;
-}
-
--- entries may be appended to a log: they are in order after its end, and so are their memberships
-abbrev pub may_extend : {K N I L C D : Type 0} → (C → C → Ordering) → List (EntryOf C K N D)
-    → RaftStateIn K N I L C → Bool
-may_extend cmp new s =
-    may_append_after cmp (last_id (full_log s.log_ids)) (log_id_of s.membership_state.effective) new
-
--- the tests of entries that are to be appended
-abbrev pub end_tests : {K N I L C D : Type 0} → (C → C → Ordering) → List (EntryOf C K N D)
-    → RaftStateIn K N I L C → TakeTests
-end_tests cmp new s = record tests_hold {
-  order = are_in_order cmp (last_id (full_log s.log_ids)) new;
-  members = has_memberships_in_order cmp (log_id_of s.membership_state.effective) new;
-}
-
--- the log has what is to be committed past the committed log id
-abbrev pub has_past_committed : {K N I L C : Type 0} → (C → C → Bool) → (C → C → Ordering)
-    → Option (LogIdOf C) → RaftStateIn K N I L C → Bool
-has_past_committed eq cmp id s =
-    if id_lt cmp s.committed id then has_id eq (full_log s.log_ids) id else true
-
--- the tests of a log id that is to be committed
-abbrev pub commit_tests : {K N I L C : Type 0} → (C → C → Bool) → (C → C → Ordering)
-    → Option (LogIdOf C) → RaftStateIn K N I L C → TakeTests
-commit_tests eq cmp id s = record tests_hold {
-  members = state_may_commit cmp id s;
-  has = has_past_committed eq cmp id s;
-}
-
--- entries have consecutive indexes from this one on, are of this leader, and store no membership
-abbrev pub continue_from : {C K N D : Type 0} → (C → C → Bool) → C → ℕ → List (EntryOf C K N D) → Bool
-continue_from eq leader i [] = true
-continue_from eq leader i (e ∷ es) =
-    nat_eq e.log_id.index i
-    && (eq e.log_id.leader_id leader && (not (stores_membership e) && continue_from eq leader (i + 1) es))
-
--- entries have consecutive indexes, are of one leader, and store no membership
-abbrev pub are_plain : {C K N D : Type 0} → (C → C → Bool) → List (EntryOf C K N D) → Bool
-are_plain eq [] = true
-are_plain eq (e ∷ es) =
-    not (stores_membership e) && continue_from eq e.log_id.leader_id (e.log_id.index + 1) es
 
 -- the log ids up to an index, and then those of new entries
 abbrev pub log_with_new : {C K N D : Type 0} → List (LogIdOf C) → List (EntryOf C K N D)

@@ -5,6 +5,7 @@ pub mod Compared
 pub mod Entries
 pub mod Follow
 pub mod Honest
+pub mod Inner
 pub mod Leadership
 pub mod Proposals
 pub mod Responses

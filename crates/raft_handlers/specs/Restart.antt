@@ -6,7 +6,7 @@ use Rattle.raft_base.specs.LogId.{id_lt, next_index}
 use Rattle.raft_base.specs.UTime.{moment_of}
 use Rattle.raft_base.specs.declared.log_id.LogIdOf.{LogIdOf}
 use Rattle.raft_base.specs.declared.server_state.ServerState.TheVariants.{Learner}
-use Rattle.raft_handlers.specs.Append.{greatest}
+use Rattle.raft_handlers.specs.Append.{greater_id}
 use Rattle.raft_handlers.specs.Entries.{
   allows_commit_past,
   are_in_order,
@@ -102,16 +102,6 @@ abbrev pub snapshot_membership : {C K N : Type 0} → Option (LogIdOf C) → Sto
 snapshot_membership None stored = None
 snapshot_membership (Some last) stored = log_id_of stored
 
--- a server has a snapshot alone
-pub record HasSnapshotAlone {K N I L C : Type 0} (eq : K → K → Bool) (same : N → N → Bool)
-    (meta : SnapshotMetaOf C K N) (s : RaftStateIn K N I L C) : Type 0 where
-  pub log : full_log s.log_ids ≡ snapshot_ids meta.last_log_id
-  pub committed : s.committed ≡ meta.last_log_id
-  pub purged_next : s.purged_next ≡ next_index meta.last_log_id
-  pub purge_point : s.purge_upto ≡ meta.last_log_id
-  pub memberships : AreSnapshotMemberships eq same meta s.membership_state
-  pub snapshot : IsSnapshotAt eq same meta.last_log_id meta s.snapshot_meta
-
 -- a server has not run: it is a learner, its vote has no moment, and its storage has done nothing
 pub record HasNotRun {K N I L C : Type 0} (IsDefaultLeader : L → Type 0)
     (IsDefaultElected : C → Type 0) (s : RaftStateIn K N I L C) : Type 0 where
@@ -137,7 +127,7 @@ abbrev pub known_committed : {K N C : Type 0} → (C → C → Bool) → (C → 
     → List (LogIdOf C) → Option (LogIdOf C) → Memberships C K N → Option (LogIdOf C)
 known_committed eq cmp log before m =
     if has_id eq log (log_id_of m.committed) && may_commit cmp (log_id_of m.committed) m
-    then greatest cmp before (log_id_of m.committed) else before
+    then greater_id cmp before (log_id_of m.committed) else before
 
 -- what is known to be committed is committed, and with it the effective membership if it is not past
 -- that
@@ -159,7 +149,7 @@ pub record Restores {K N I L C D : Type 0} (ord : OrdMembers C) (id_eq : K → K
   pub snapshot : IsSnapshotAt id_eq same meta.last_log_id meta s.snapshot_meta
   pub committed : (m : Memberships C K N) × AppendsStored ord.cmp id_eq same meta
       (entries_past ord.eq meta.last_log_id stored) known m
-      × CommitsKnown ord.eq ord.cmp (greatest ord.cmp meta.last_log_id known) m s
+      × CommitsKnown ord.eq ord.cmp (greater_id ord.cmp meta.last_log_id known) m s
 
 -- why a restart is refused: the snapshot does not fit; the entries past it are not in order, or their
 -- memberships are not; the log does not have what is stored as committed; or an allocation failed

@@ -2,7 +2,7 @@
 use Rattle.std.specs.Prelude.{◌≡◌, Bool, false, not, ◌&&◌, Option, Some, None, Result, Err, IfErr, IfSome, IsTrue, if◌then◌else◌}
 use Rattle.std.specs.declared.cmp.Ordering.{Ordering}
 use Rattle.raft_base.specs.LogId.{id_lt}
-use Rattle.raft_handlers.specs.Append.{greatest}
+use Rattle.raft_handlers.specs.Append.{greater_id}
 use Rattle.raft_handlers.specs.Follow.{heard, is_followed}
 use Rattle.raft_handlers.specs.declared.error.SnapshotError.{SnapshotError}
 use Rattle.raft_handlers.specs.declared.error.SnapshotError.TheVariants.{DoesNotFit, OutOfMemory}
@@ -34,7 +34,7 @@ pub record InstallsSnapshot {K N I L C : Type 0} (ord : OrdMembers C) (same_lead
 pub record Installs {K N I L C : Type 0} (ord : OrdMembers C) (same_leader : L → L → Bool)
     (IsCopy : SnapshotMetaOf C K N → SnapshotMetaOf C K N → Type 0) (meta : SnapshotMetaOf C K N)
     (old new : RaftStateIn K N I L C) : Type 0 where
-  pub committed : new.committed ≡ greatest ord.cmp old.committed meta.last_log_id
+  pub committed : new.committed ≡ greater_id ord.cmp old.committed meta.last_log_id
   pub installed : IsTrue (id_lt ord.cmp old.committed meta.last_log_id)
       → InstallsSnapshot ord same_leader IsCopy meta old new
   pub known : id_lt ord.cmp old.committed meta.last_log_id ≡ false → new ≡ old
@@ -70,8 +70,3 @@ snapshot_refusal order cmp eq leader meta s =
 abbrev pub RefusedFor : {T : Type 0} → Option SnapshotError → Result T SnapshotError → Type 0
 RefusedFor (Some reason) result = result ≡ Err reason
 RefusedFor None result = IfErr result (λ e. e ≡ OutOfMemory)
-
--- a snapshot is refused only if it does not fit, or because an allocation fails
-abbrev pub RefusedUnlessFits : Bool → SnapshotError → Type 0
-RefusedUnlessFits fits DoesNotFit = fits ≡ false
-RefusedUnlessFits fits OutOfMemory = Unit {0}

@@ -22,7 +22,7 @@ use Rattle.std.specs.Prelude.{
 use Rattle.std.specs.declared.cmp.Ordering.{Ordering}
 use Rattle.raft_base.specs.LogId.{id_lt}
 use Rattle.raft_base.specs.declared.log_id.LogIdOf.{LogIdOf}
-use Rattle.raft_handlers.specs.Append.{new_of}
+use Rattle.raft_handlers.specs.Append.{entries_to_append}
 use Rattle.raft_handlers.specs.Campaign.{same_vote}
 use Rattle.raft_handlers.specs.Entries.{ends_before, entry_ids, has_id}
 use Rattle.raft_handlers.specs.declared.changes.Changes.{Changes}
@@ -64,22 +64,9 @@ risen_to cmp old new = if id_lt cmp old new then new else None
 -- how many entries of a request are new in the log, by the answer
 abbrev pub count_new : {K N I L C D : Type 0} → (C → C → Bool) → Outcome L C
     → List (EntryOf C K N D) → RaftStateIn K N I L C → ℕ
-count_new eq (Matches upto) es s = length (new_of eq s es)
+count_new eq (Matches upto) es s = length (entries_to_append eq s es)
 count_new eq (Conflict at last) es s = 0
 count_new eq (HigherVote vote) es s = 0
-
--- the log is truncated at this index, at which or after which it has an entry, or it is as it was
-pub record Truncates {K N I L C : Type 0} (from : Option ℕ) (old new : RaftStateIn K N I L C)
-    : Type 0 where
-  pub log : full_log new.log_ids ≡ truncated from (full_log old.log_ids)
-  pub needed : IfSome from (λ at. ends_before at old ≡ false)
-
--- the log is truncated at this index, at which or after which it has an entry, and then these log ids
--- are appended
-pub record WritesEntries {K N I L C : Type 0} (eq : C → C → Bool) (from : Option ℕ)
-    (ids : List (LogIdOf C)) (old new : RaftStateIn K N I L C) : Type 0 where
-  pub log : IsTrue (same_log eq (full_log new.log_ids) (truncated from (full_log old.log_ids) ++ ids))
-  pub needed : IfSome from (λ at. ends_before at old ≡ false)
 
 -- what changes say of the log and of what is committed, after a request with these entries:
 -- - a disk that has the old log and follows the changes has the new log;

@@ -2,14 +2,13 @@
 ghost use Rattle.std.specs.Prelude.{◌≡◌, ◌≤◌, length, false, Ok, IsTrue, IfOk, IfErr, IfSome, IfNone, OnOk};
 ghost use Rattle.std.specs.List.{prefix_len};
 ghost use Rattle.std.specs.Set.{ClonesAreEqual};
-ghost use Rattle.raft_handlers.specs.Append.{has_entry, least, take_tests, Answers, IfHigherVote, IsConflict, Refused, Refuses, Took};
-ghost use Rattle.raft_handlers.specs.Follow.{is_followed, vote_heard};
+ghost use Rattle.raft_handlers.specs.Append.{has_entry, lesser_id, take_tests, Answers, IfHigherVote, IsConflict, Refused, Refuses, Took};
+ghost use Rattle.raft_handlers.specs.Follow.{higher_vote_response, is_followed, vote_heard};
 ghost use Rattle.raft_handlers.specs.Honest.{IsHonest};
 ghost use Rattle.raft_handlers.specs.Written.{no_changes, Writes, WritesLog};
 ghost use Rattle.raft_handlers.specs.declared.error.AppendError.TheVariants.{OutOfMemory};
-ghost use Rattle.raft_handlers.specs.declared.message.Outcome.TheVariants.{HigherVote, Matches};
+ghost use Rattle.raft_handlers.specs.declared.message.Outcome.TheVariants.{Matches};
 ghost use Rattle.raft_state.specs.raft_state.Sound.{purged_or_logged, IsSound};
-ghost use Rattle.raft_state.specs.raft_state.VoteAndLog.{vote_of};
 
 use crate::changes::Changes;
 use crate::error::AppendError;
@@ -47,15 +46,9 @@ pub fn handle_append_entries<
         made.0.leader_id ≡ L.committed request.now.leader_id) }
     ensures request { IfOk result (λ made. made.0.request ≡ request.now.request) }
     ensures vote { state.new.vote ≡ vote_heard L.order request.now.leader_id state.old }
-    ensures not_followed { is_followed L.order request.now.leader_id state.old ≡ false →
-        result ≡ Ok (
-          record {
-            leader_id = L.committed request.now.leader_id;
-            request = request.now.request;
-            outcome = HigherVote (vote_of state.old);
-          },
-          no_changes,
-        ) }
+    ensures not_followed { let leader = L.committed request.now.leader_id in
+        is_followed L.order request.now.leader_id state.old ≡ false → result
+        ≡ Ok (higher_vote_response leader request.now.request state.old, no_changes) }
     ensures followed { IfOk result (λ made. IfHigherVote made.0.outcome
         (λ _. is_followed L.order request.now.leader_id state.old ≡ false)) }
     ensures answers { IfOk result (λ made. Answers L.Committed.Ord NID.eq N.eq request.now
@@ -150,7 +143,7 @@ fn match_log<NID: NodeId, N: Node, I: Instant, L: Drop, C: Ord + Copy + Drop, D>
         return Ok((Outcome::Matches(request.prev), changes));
     }
     let last = request.last_log_id();
-    let committed = least(request.committed, last);
+    let committed = lesser_id(request.committed, last);
     let changes = take_entries(state, request.prev, &request.entries, committed)?;
     Ok((Outcome::Matches(last), changes))
 }
@@ -211,8 +204,8 @@ fn take_entries<NID: NodeId, N: Node, I: Instant, L: Drop, C: Ord + Copy + Drop,
 }
 
 /// Returns the lesser one of two log ids that may be absent.
-fn least<C: Ord + Copy>(a: Option<LogIdOf<C>>, b: Option<LogIdOf<C>>) -> Option<LogIdOf<C>>
-    ensures { result ≡ least C.cmp a b }
+fn lesser_id<C: Ord + Copy>(a: Option<LogIdOf<C>>, b: Option<LogIdOf<C>>) -> Option<LogIdOf<C>>
+    ensures { result ≡ lesser_id C.cmp a b }
 {
     if log_id_below(a, b) { a } else { b }
 }

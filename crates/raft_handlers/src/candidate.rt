@@ -2,7 +2,7 @@
 ghost use Rattle.std.specs.Prelude.{◌≡◌, ◌↔◌, length, max, false, IfErr, IfOk, IsTrue, OnErr};
 ghost use Rattle.std.specs.List.{filter, list_all};
 ghost use Rattle.std.specs.Set.{ClonesAreEqual};
-ghost use Rattle.raft_handlers.specs.Campaign.{Campaigns, CountsVoteOf, HasMajorities, IsCampaignRefusal, can_have_majorities, grants_vote, has_vote_of, may_campaign, may_have_vote};
+ghost use Rattle.raft_handlers.specs.Campaign.{Campaigns, CountsVoteOf, HasMajorities, IsCampaignRefusal, can_have_majorities, grants_vote, has_vote_of, may_campaign, can_have_vote_of};
 ghost use Rattle.raft_handlers.specs.Compared.{compared};
 ghost use Rattle.raft_handlers.specs.declared.candidate.Tally.TheVariants.{Lost, Won};
 ghost use Rattle.raft_members.specs.quorum.Majority.{is_majority};
@@ -184,7 +184,7 @@ impl<
     /// Whether those who have voted or have not refused are a majority of each of the configs.
     fn can_have_each(&self, configs: &[BTreeSet<NID>], refused: &[NID]) -> bool
         ensures { result ≡ list_all
-            (λ c. is_majority NID.eq c.keys (may_have_vote NID.eq self.now refused.now))
+            (λ c. is_majority NID.eq c.keys (can_have_vote_of NID.eq self.now refused.now))
             configs.now }
     {
         configs.iter().all(|config| self.can_have(config, refused))
@@ -193,7 +193,7 @@ impl<
     /// Whether those who have voted or have not refused are a majority of a config.
     fn can_have(&self, config: &BTreeSet<NID>, refused: &[NID]) -> bool
         ensures { result
-            ≡ is_majority NID.eq config.now.keys (may_have_vote NID.eq self.now refused.now) }
+            ≡ is_majority NID.eq config.now.keys (can_have_vote_of NID.eq self.now refused.now) }
     {
         self.count_open(config, refused) > config.len() / 2
     }
@@ -201,17 +201,17 @@ impl<
     /// Counts the members of a config that have voted or have not refused.
     fn count_open(&self, config: &BTreeSet<NID>, refused: &[NID]) -> usize
         ensures { result
-            ≡ length (filter (may_have_vote NID.eq self.now refused.now) config.now.keys) }
+            ≡ length (filter (can_have_vote_of NID.eq self.now refused.now) config.now.keys) }
     {
         config
             .iter()
-            .filter(|id| self.may_have_vote(id, refused))
+            .filter(|id| self.can_have_vote_of(id, refused))
             .count()
     }
 
     /// Whether a node has voted for the candidate, or has not refused.
-    fn may_have_vote(&self, id: &NID, refused: &[NID]) -> bool
-        ensures { result ≡ may_have_vote NID.eq self.now refused.now id.now }
+    fn can_have_vote_of(&self, id: &NID, refused: &[NID]) -> bool
+        ensures { result ≡ can_have_vote_of NID.eq self.now refused.now id.now }
     {
         self.has_vote_of(id) || !refused.contains(id)
     }

@@ -3,9 +3,9 @@ ghost use Rattle.std.specs.Prelude.{◌≡◌, ◌&&◌, ◌+◌, false, IsTrue,
 ghost use Rattle.std.specs.Set.{ClonesAreEqual};
 ghost use Rattle.raft_base.specs.LogId.{next_index};
 ghost use Rattle.raft_base.specs.declared.log_id.LogIdOf.{LogIdOf};
-ghost use Rattle.raft_handlers.specs.Append.{Extends, IsCut, Replaces, Stops};
-ghost use Rattle.raft_handlers.specs.Entries.{are_in_order, are_plain, commit_tests, continue_from, end_tests, ends_before, entry_ids, has_past_committed, may_cut, may_extend, new_tests, tests_hold, RefusedUnless};
-ghost use Rattle.raft_handlers.specs.Written.{risen_to, Truncates, WritesEntries};
+ghost use Rattle.raft_handlers.specs.Entries.{are_in_order, ends_before, entry_ids, may_cut, tests_hold, RefusedUnless};
+ghost use Rattle.raft_handlers.specs.Written.{risen_to};
+ghost use Rattle.raft_handlers.specs.Inner.Log.{Extends, IsCut, Replaces, Stops, are_plain, commit_tests, continue_from, end_tests, has_past_committed, may_extend, new_tests, Truncates, WritesEntries};
 ghost use Rattle.raft_state.specs.log_id_list.LogConditions.{follows};
 ghost use Rattle.raft_state.specs.raft_state.Commit.{state_after_commit, state_may_commit};
 ghost use Rattle.raft_state.specs.raft_state.Sound.{purged_or_logged, IsSound};

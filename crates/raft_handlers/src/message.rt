@@ -3,9 +3,9 @@
 //! `L` is a leader id as a vote has it, and `C` the committed leader id, as a log id has it.
 
 ghost use Rattle.std.specs.Prelude.{◌≡◌};
-ghost use Rattle.raft_handlers.specs.Append.{last_of};
+ghost use Rattle.raft_handlers.specs.Append.{last_id_of_request};
 
-use raft_base::{LogIdOf, Node, NodeId, RaftLogId, VoteIn};
+use raft_base::{DisplayOption, LogIdOf, Node, NodeId, RaftLogId, VoteIn};
 use raft_state::{EntryOf, SnapshotMetaOf};
 use std::fmt;
 
@@ -85,7 +85,7 @@ impl<L, C: Copy, NID: NodeId, N: Node, D> AppendEntries<L, C, NID, N, D> {
     /// Returns the last log id that the request speaks of: that of the last entry, or `prev` if
     /// there are no entries.
     pub fn last_log_id(&self) -> Option<LogIdOf<C>>
-        ensures { result ≡ last_of self.now.prev self.now.entries.items }
+        ensures { result ≡ last_id_of_request self.now.prev self.now.entries.items }
     {
         match self.entries.last() {
             Some(entry) => Some(*entry.get_log_id()),
@@ -105,5 +105,79 @@ impl<L: fmt::Debug, C: fmt::Debug, NID: NodeId, N: Node, D> fmt::Debug
             .field("entries", &self.entries)
             .field("committed", &self.committed)
             .finish()
+    }
+}
+
+impl<L: fmt::Display, C: fmt::Display> fmt::Display for VoteRequest<L, C> {
+    fn fmt<W: fmt::Write>(&self, f: &mut fmt::Formatter<W>) -> fmt::Result {
+        let VoteRequest { vote, last_log_id } = self;
+        let last = DisplayOption(last_log_id);
+        write!(f, "vote request {vote}, last log id {last}")
+    }
+}
+
+impl<L: fmt::Display> fmt::Display for VoteResponse<L> {
+    fn fmt<W: fmt::Write>(&self, f: &mut fmt::Formatter<W>) -> fmt::Result {
+        let vote = &self.vote;
+        let answer = if self.granted { "granted" } else { "refused" };
+        write!(f, "vote response {vote}, {answer}")
+    }
+}
+
+/// The text has the number of the entries, and not the entries.
+impl<L: fmt::Display, C: fmt::Display, NID: NodeId, N: Node, D> fmt::Display
+    for AppendEntries<L, C, NID, N, D> {
+    fn fmt<W: fmt::Write>(&self, f: &mut fmt::Formatter<W>) -> fmt::Result {
+        let leader_id = &self.leader_id;
+        let request = DisplayOption(&self.request);
+        let prev = DisplayOption(&self.prev);
+        let entries = self.entries.len();
+        let committed = DisplayOption(&self.committed);
+        write!(
+            f,
+            "append request {request}, leader {leader_id}, prev {prev}, entries {entries}, \
+            committed {committed}"
+        )
+    }
+}
+
+/// The text has the last log id of the snapshot, and nothing else of its metadata.
+impl<L: fmt::Display, C: fmt::Display, NID: NodeId, N: Node> fmt::Display
+    for InstallSnapshot<L, C, NID, N> {
+    fn fmt<W: fmt::Write>(&self, f: &mut fmt::Formatter<W>) -> fmt::Result {
+        let InstallSnapshot {
+            leader_id,
+            request,
+            meta,
+        } = self;
+        let last = DisplayOption(&meta.last_log_id);
+        write!(
+            f,
+            "snapshot request {request}, leader {leader_id}, last log id {last}"
+        )
+    }
+}
+
+impl<L: fmt::Display, C: fmt::Display> fmt::Display for Outcome<L, C> {
+    fn fmt<W: fmt::Write>(&self, f: &mut fmt::Formatter<W>) -> fmt::Result {
+        match self {
+            Outcome::Matches(upto) => write!(f, "matches {}", DisplayOption(upto)),
+            Outcome::Conflict { index, last } => {
+                write!(f, "conflict at {index}, last index {}", DisplayOption(last))
+            }
+            Outcome::HigherVote(vote) => write!(f, "higher vote {vote}"),
+        }
+    }
+}
+
+impl<L: fmt::Display, C: fmt::Display> fmt::Display for Response<L, C> {
+    fn fmt<W: fmt::Write>(&self, f: &mut fmt::Formatter<W>) -> fmt::Result {
+        let Response {
+            leader_id,
+            request,
+            outcome,
+        } = self;
+        let request = DisplayOption(request);
+        write!(f, "response {request}, leader {leader_id}, {outcome}")
     }
 }

@@ -1,8 +1,8 @@
 //! A restart: the state of a server from what its disk has.
 ghost use Rattle.std.specs.Prelude.{◌≡◌, ◌≤◌, None, IfErr, IfOk, IsOkAnd, IsTrue, OnOk, drop, length};
 ghost use Rattle.std.specs.Set.{ClonesAreEqual};
-ghost use Rattle.raft_handlers.specs.Restart.{entries_past, snapshot_fits, CommitsKnown, HasNotRun, HasSnapshotAlone, IsRestartRefusal, Restores};
-ghost use Rattle.raft_handlers.specs.Snapshot.{RefusedUnlessFits};
+ghost use Rattle.raft_handlers.specs.Restart.{entries_past, snapshot_fits, CommitsKnown, HasNotRun, IsRestartRefusal, Restores};
+ghost use Rattle.raft_handlers.specs.Inner.Restart.{HasSnapshotAlone, RefusedUnlessFits};
 ghost use Rattle.raft_state.specs.Accepted.{accepted_from};
 ghost use Rattle.raft_state.specs.raft_state.Sound.{IsSound};
 ghost use Rattle.raft_state.specs.raft_state.VoteAndLog.{vote_of};

@@ -2,13 +2,11 @@
 ghost use Rattle.std.specs.Prelude.{◌≡◌, Ok, Some, false, true, IfOk, OnOk, OnErr};
 ghost use Rattle.std.specs.Set.{ClonesAreEqual};
 ghost use Rattle.raft_handlers.specs.Append.{IfHigherVote};
-ghost use Rattle.raft_handlers.specs.Follow.{heard, is_followed, vote_heard};
+ghost use Rattle.raft_handlers.specs.Follow.{heard, higher_vote_response, is_followed, vote_heard};
 ghost use Rattle.raft_handlers.specs.Snapshot.{install_refusal, snapshot_refusal, AnswersSnapshot, Installs, RefusedFor};
 ghost use Rattle.raft_handlers.specs.Written.{nothing_installed, WritesInstall, WritesSnapshot};
-ghost use Rattle.raft_handlers.specs.declared.message.Outcome.TheVariants.{HigherVote};
 ghost use Rattle.raft_state.specs.SnapshotMeta.{IsSnapshotCopy};
 ghost use Rattle.raft_state.specs.raft_state.Sound.{IsSound};
-ghost use Rattle.raft_state.specs.raft_state.VoteAndLog.{vote_of};
 
 use crate::changes::SnapshotChanges;
 use crate::error::SnapshotError;
@@ -42,15 +40,9 @@ pub fn handle_install_snapshot<
         made.0.leader_id ≡ L.committed request.now.leader_id) }
     ensures request { IfOk result (λ made. made.0.request ≡ Some request.now.request) }
     ensures vote { state.new.vote ≡ vote_heard L.order request.now.leader_id state.old }
-    ensures not_followed { is_followed L.order request.now.leader_id state.old ≡ false →
-        result ≡ Ok (
-          record {
-            leader_id = L.committed request.now.leader_id;
-            request = Some request.now.request;
-            outcome = HigherVote (vote_of state.old);
-          },
-          nothing_installed,
-        ) }
+    ensures not_followed { let leader = L.committed request.now.leader_id in
+        is_followed L.order request.now.leader_id state.old ≡ false → result
+        ≡ Ok (higher_vote_response leader (Some request.now.request) state.old, nothing_installed) }
     ensures followed { IfOk result (λ made. IfHigherVote made.0.outcome
         (λ _. is_followed L.order request.now.leader_id state.old ≡ false)) }
     ensures answers { IfOk result (λ made. AnswersSnapshot L.Committed.Ord L.eq

@@ -1,6 +1,6 @@
 //! A change of the members 1, 2 and 3, in two steps.
 
-use crate::asserts::assert_right;
+use crate::asserts::{assert_leader, assert_right};
 use crate::leader::Led;
 use crate::states::{Entry, Row, StateOf, id, members_of, voter};
 use raft_base::{EmptyNode, LeaderAdv, LeaderKind, LeaderStd};
@@ -130,16 +130,18 @@ fn row(right: Right) -> Row {
     }
 }
 
-/// Returns the name of the first row with another answer, or whether node 3 is a member at the end.
-fn fails<K: LeaderKind<u64>>(alloc: Global) -> Result<Option<&'static str>, HandlerError> {
+/// Returns the name of the first row with another answer, or whether node 3 is a member at the end,
+/// with the leader below it.
+fn fails<K: LeaderKind<u64>>(alloc: Global) -> Result<Option<String>, HandlerError> {
     let mut led = Led::<K>::new(voter::<K>(alloc)?)?;
-    led.wrong_change(alloc)
+    let wrong = led.wrong_change(alloc)?;
+    Ok(led.shown(alloc, wrong)?)
 }
 
 #[test]
 fn a_member_leaves_in_two_steps(rt: HostRuntime) -> Result<(), Fail> {
-    assert_right(&rt, "default leader ids", fails::<LeaderAdv>(rt.alloc())?);
-    assert_right(&rt, "standard leader ids", fails::<LeaderStd>(rt.alloc())?);
+    assert_leader(&rt, "default leader ids", fails::<LeaderAdv>(rt.alloc())?);
+    assert_leader(&rt, "standard leader ids", fails::<LeaderStd>(rt.alloc())?);
     Ok(())
 }
 

@@ -1,6 +1,6 @@
 //! A leader of the voters 1, 2 and 3: what it sends, takes and commits.
 
-use crate::asserts::assert_right;
+use crate::asserts::assert_leader;
 use crate::snapshot::request;
 use crate::states::{Entry, Row, StateOf, id, voter};
 use raft_base::{EmptyNode, LeaderAdv, LeaderKind, LeaderStd, VoteOf};
@@ -9,7 +9,7 @@ use raft_handlers::{
     SnapshotError, handle_install_snapshot,
 };
 use raft_progress::{InflightError, InflightOf, Progress};
-use std::alloc::Global;
+use std::alloc::{AllocError, Global};
 use std::test::Fail;
 
 /// A leader over a kind of leader ids.
@@ -197,6 +197,14 @@ impl<K: LeaderKind<u64>> Led<K> {
         }
         None
     }
+
+    /// Returns what a failing row prints: what is wrong, and the leader as it is then.
+    pub fn shown(&self, alloc: Global, wrong: Option<&str>) -> Result<Option<String>, AllocError> {
+        match wrong {
+            Some(what) => Ok(Some(format!(in alloc; "{what}\n{}", self.leader)?)),
+            None => Ok(None),
+        }
+    }
 }
 
 /// Responses to another request than that in flight.
@@ -316,11 +324,12 @@ pub const SNAPSHOT: &[(&str, Step, Right)] = &[
 ];
 
 /// Returns the name of the first row of a leader's life with another result, or what is seen of its
-/// members at the end if that is wrong: node 2 matches, and a request to node 3 is in flight.
-fn life<K: LeaderKind<u64>>(alloc: Global) -> Result<Option<&'static str>, HandlerError> {
+/// members at the end if that is wrong: node 2 matches, and a request to node 3 is in flight. The
+/// leader is shown below it.
+fn life<K: LeaderKind<u64>>(alloc: Global) -> Result<Option<String>, HandlerError> {
     let mut led = Led::<K>::new(voter::<K>(alloc)?)?;
     let wrong = led.fails(LIFE);
-    Ok(wrong.or(led.wrong_members()))
+    Ok(led.shown(alloc, wrong.or(led.wrong_members()))?)
 }
 
 /// Installs the snapshot from which the leader's log begins.
@@ -336,27 +345,29 @@ pub fn snapshotted<K: LeaderKind<u64>>(alloc: Global) -> Result<StateOf<K>, Snap
     Ok(state)
 }
 
-/// Returns the name of the first row of a snapshot that is lost with another result.
-fn lost_snapshot<K: LeaderKind<u64>>(alloc: Global) -> Result<Option<&'static str>, HandlerError> {
+/// Returns the name of the first row of a snapshot that is lost with another result, with the leader
+/// below it.
+fn lost_snapshot<K: LeaderKind<u64>>(alloc: Global) -> Result<Option<String>, HandlerError> {
     let mut led = Led::<K>::new(snapshotted::<K>(alloc)?)?;
-    Ok(led.fails(SNAPSHOT))
+    let wrong = led.fails(SNAPSHOT);
+    Ok(led.shown(alloc, wrong)?)
 }
 
 #[test]
 fn a_leader_sends_and_commits(rt: HostRuntime) -> Result<(), Fail> {
-    assert_right(&rt, "default leader ids", life::<LeaderAdv>(rt.alloc())?);
-    assert_right(&rt, "standard leader ids", life::<LeaderStd>(rt.alloc())?);
+    assert_leader(&rt, "default leader ids", life::<LeaderAdv>(rt.alloc())?);
+    assert_leader(&rt, "standard leader ids", life::<LeaderStd>(rt.alloc())?);
     Ok(())
 }
 
 #[test]
 fn a_lost_snapshot_is_sent_again(rt: HostRuntime) -> Result<(), Fail> {
-    assert_right(
+    assert_leader(
         &rt,
         "default leader ids",
         lost_snapshot::<LeaderAdv>(rt.alloc())?,
     );
-    assert_right(
+    assert_leader(
         &rt,
         "standard leader ids",
         lost_snapshot::<LeaderStd>(rt.alloc())?,

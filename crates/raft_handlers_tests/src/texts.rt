@@ -1,13 +1,17 @@
-//! Debug texts of requests, candidates and leaders, over standard Raft's leader ids.
+//! Texts of requests, responses, candidates and leaders, over standard Raft's leader ids.
 
+use crate::asserts::assert_right;
 use crate::candidate::candidate;
 use crate::leader::Led;
 use crate::snapshot::Install;
-use crate::states::{StateOf, entries, voter};
+use crate::states::{StateOf, entries, id, voter};
 use raft_base::leader_id_std::{CommittedLeaderId, LeaderId};
 use raft_base::{EmptyNode, LeaderStd, VoteOf};
-use raft_handlers::{AppendEntries, HandlerError, Leader};
+use raft_handlers::{
+    AppendEntries, HandlerError, Leader, Outcome, Response, VoteRequest, VoteResponse,
+};
 use raft_state::SnapshotMetaOf;
+use raft_testing::facts::first_wrong;
 use raft_testing::printing::{debugs, displays};
 use std::alloc::{AllocError, Global};
 use std::fmt::Debug;
@@ -68,7 +72,8 @@ fn append_prints(alloc: Global) -> Result<bool, AllocError> {
         entries: entries::<LeaderStd>(alloc, &[(3, 0)])?,
         committed: None,
     };
-    Ok(debugs(alloc, &request, APPEND))
+    let text = "append request 7, leader T3-N1, prev None, entries 1, committed None";
+    Ok(debugs(alloc, &request, APPEND) && displays(alloc, &request, text))
 }
 
 /// Whether a request with an empty snapshot has its text.
@@ -78,7 +83,98 @@ fn install_prints(alloc: Global) -> Result<bool, AllocError> {
         request: 8,
         meta: SnapshotMetaOf::try_default(alloc)?,
     };
-    Ok(debugs(alloc, &request, INSTALL))
+    let text = "snapshot request 8, leader T3-N1, last log id None";
+    Ok(debugs(alloc, &request, INSTALL) && displays(alloc, &request, text))
+}
+
+/// A voter's response to the candidate 1 of term 3.
+fn vote_response(granted: bool) -> VoteResponse<LeaderId<u64>> {
+    let vote = VoteOf::<u64, LeaderStd>::new(3, 1);
+    VoteResponse { vote, granted }
+}
+
+/// A response to a leader of term 3.
+fn response(
+    request: Option<u64>,
+    outcome: Outcome<LeaderId<u64>, CommittedLeaderId>,
+) -> Response<LeaderId<u64>, CommittedLeaderId> {
+    let leader_id = CommittedLeaderId::new(3, 1);
+    Response {
+        leader_id,
+        request,
+        outcome,
+    }
+}
+
+/// Returns the name of the first message that displays another text.
+fn wrong_message(alloc: Global) -> Option<&'static str> {
+    let vote = VoteOf::<u64, LeaderStd>::new(3, 1);
+    let last_log_id = id::<LeaderStd>(Some((2, 4)));
+    let conflict = Outcome::Conflict {
+        index: 5,
+        last: Some(3),
+    };
+    first_wrong(&[
+        (
+            "a vote request",
+            displays(
+                alloc,
+                &VoteRequest { vote, last_log_id },
+                "vote request T3-N1:uncommitted, last log id 2-4",
+            ),
+        ),
+        (
+            "a vote request with an empty log",
+            displays(
+                alloc,
+                &VoteRequest {
+                    vote,
+                    last_log_id: id::<LeaderStd>(None),
+                },
+                "vote request T3-N1:uncommitted, last log id None",
+            ),
+        ),
+        (
+            "a granted vote",
+            displays(
+                alloc,
+                &vote_response(true),
+                "vote response T3-N1:uncommitted, granted",
+            ),
+        ),
+        (
+            "a refused vote",
+            displays(
+                alloc,
+                &vote_response(false),
+                "vote response T3-N1:uncommitted, refused",
+            ),
+        ),
+        (
+            "a match",
+            displays(
+                alloc,
+                &response(Some(7), Outcome::Matches(last_log_id)),
+                "response 7, leader 3, matches 2-4",
+            ),
+        ),
+        (
+            "a conflict",
+            displays(
+                alloc,
+                &response(Some(8), conflict),
+                "response 8, leader 3, conflict at 5, last index 3",
+            ),
+        ),
+        (
+            "a higher vote",
+            displays(
+                alloc,
+                &response(None, Outcome::HigherVote(vote)),
+                "response None, leader 3, higher vote T3-N1:uncommitted",
+            ),
+        ),
+    ])
 }
 
 /// Whether the candidate of term 6, and the leader that it becomes, have their texts.
@@ -110,5 +206,11 @@ fn requests_and_nodes_print(rt: HostRuntime) -> Result<(), Fail> {
         members_display(alloc) == Ok(true),
     ];
     assert!(rt; are_right == [true; 4]);
+    Ok(())
+}
+
+#[test]
+fn messages_display(rt: HostRuntime) -> Result<(), Fail> {
+    assert_right(&rt, "messages", wrong_message(rt.alloc()));
     Ok(())
 }

@@ -4,7 +4,7 @@ ghost use Rattle.std.specs.Option.{option_cmp};
 ghost use Rattle.std.specs.Ordering.{is_le};
 ghost use Rattle.std.specs.Set.{ClonesAreEqual};
 ghost use Rattle.raft_base.specs.LeaderIdStd.{std_log_id_cmp};
-ghost use Rattle.raft_handlers.specs.Append.{has_all, last_of};
+ghost use Rattle.raft_handlers.specs.Append.{has_all, last_id_of_request};
 ghost use Rattle.raft_handlers.specs.Leadership.{entry_of};
 ghost use Rattle.raft_progress.specs.declared.entry.ProgressEntryOf.{ProgressEntryOf};
 ghost use Rattle.raft_state.specs.membership_state.Memberships.{in_effect};
@@ -82,7 +82,7 @@ pub fn replicates<
         IsTrue (has_all C.eq state.new request.now.entries.items)) }
     ensures knows { IfOk result (λ matches. IsTrue matches → IsSome request.now.request →
         (entry : ProgressEntryOf C) → entry_of NID.eq leader.new member.now ≡ Some entry →
-        entry.matching ≡ last_of request.now.prev request.now.entries.items) }
+        entry.matching ≡ last_id_of_request request.now.prev request.now.entries.items) }
     ensures knows_what_is_there { IfOk result (λ matches. IsTrue matches →
         IsSome request.now.request →
         (entry : ProgressEntryOf C) → entry_of NID.eq leader.new member.now ≡ Some entry →

@@ -52,8 +52,8 @@ use Rattle.raft_safety.specs.Apply.{IsKnownCommitted}
 use Rattle.raft_safety.specs.AppendEntries.{MayAppendAndAck}
 use Rattle.raft_state.specs.log_id_list.LogEdits.{front}
 use Rattle.raft_state.specs.log_id_list.LogReads.{id_at, last_id}
-use Rattle.raft_handlers.specs.Append.{greatest, least}
-use Rattle.raft_handlers.specs.Follow.{elected}
+use Rattle.raft_handlers.specs.Append.{greater_id, lesser_id}
+use Rattle.raft_handlers.specs.Follow.{committed_vote_of}
 use Rattle.raft_refinement.proofs.Calls.{
   AppendConflicts,
   AppendMatches,
@@ -67,19 +67,8 @@ use Rattle.raft_refinement.proofs.Calls.{
   purged_or_logged,
   since_of,
 }
-use Rattle.raft_refinement.specs.Server.{
-  AreRanked,
-  IsIdAt,
-  IsInLog,
-  IsLastId,
-  IsServer,
-  IsWhole,
-  KnowsCommitted,
-  Leaders,
-  Place,
-  ShowsLog,
-  State,
-}
+use Rattle.raft_refinement.specs.Server.{AreRanked, IsIdAt, IsInLog, IsLastId, IsServer, KnowsCommitted, Leaders, Place, ShowsLog, State}
+use Rattle.raft_refinement.proofs.Whole.{IsWhole}
 use Rattle.raft_refinement.specs.Appending.{AllInLog, Follows, InLogIfAny, IsSent, Truncates}
 use Rattle.raft_safety.proofs.lemmas.PrefixLemmas.{
   prefix_itself,
@@ -304,12 +293,12 @@ module _ {L C K D : Type 0} (k : Leaders L C K) (p : Place L C K D) (ranked : Ar
   lead = p.history.leader_log (k.committed leader) by_node
 
   -- a leader that is followed is of a term that the server has not passed
-  not_passed : (old : State L C) → IsServer k p old es → partial_ge (vote_cmp k.order) (elected leader) old.vote ≡ true
+  not_passed : (old : State L C) → IsServer k p old es → partial_ge (vote_cmp k.order) (committed_vote_of leader) old.vote ≡ true
       → term_after p.rank es ≤ p.rank (k.committed leader)
   not_passed old is ge = by (k.order leader old.vote.leader_id) old.vote.committed refl ge
     where
       by : (o : Option Ordering) (b : Bool) → k.order leader old.vote.leader_id ≡ o
-          → partial_ge (λ (x y : VoteIn L). by_leader_then_committed o true b) (elected leader) old.vote ≡ true
+          → partial_ge (λ (x y : VoteIn L). by_leader_then_committed o true b) (committed_vote_of leader) old.vote ≡ true
           → term_after p.rank es ≤ p.rank (k.committed leader)
       by (Some Greater) b o h =
           let lt = ranked.greater leader old.vote.leader_id in_use is.in_use o in omega (arith, lt, is.reached)
@@ -535,7 +524,7 @@ module _ {L C K D : Type 0} (k : Leaders L C K) (p : Place L C K D) (ranked : Ar
       reached = omega arith;
     }
 
-    not_uncommitted : (new : State L C) → new.vote ≡ elected leader → new.vote.committed ≡ false → ⊥
+    not_uncommitted : (new : State L C) → new.vote ≡ committed_vote_of leader → new.vote.committed ≡ false → ⊥
     not_uncommitted new is none = true≢false (sym (ap (λ (v : VoteIn L). v.committed) is) ∙ none)
 
     -- ---- a conflict
@@ -767,10 +756,10 @@ module _ {L C K D : Type 0} (k : Leaders L C K) (p : Place L C K D) (ranked : Ar
         → MayAppendAndAck p.rank p.quorum p.history es t by_node (place upto) l
         → InLogIfAny k p lead committed → InLogIfAny k p lead upto
         → ((i : ℕ) → next_index committed ≡ suc (suc i) → IsKnownCommitted p.rank p.quorum p.history t by_node (suc i))
-        → new.committed ≡ greatest k.cmp old.committed (least k.cmp committed upto) → (i : ℕ) → next_index new.committed ≡ suc (suc i)
+        → new.committed ≡ greater_id k.cmp old.committed (lesser_id k.cmp committed upto) → (i : ℕ) → next_index new.committed ≡ suc (suc i)
         → KnowsCommitted p.rank p.quorum p.history (Ack t by_node (place upto) ∷ Append t by_node l ∷ es) (suc i)
     may_commit l old new is committed upto may u v known e i at =
-        by (id_lt k.cmp old.committed (least k.cmp committed upto)) refl (ap next_index (sym e) ∙ at)
+        by (id_lt k.cmp old.committed (lesser_id k.cmp committed upto)) refl (ap next_index (sym e) ∙ at)
       where
         here : (n : ℕ) → n ≤ place upto → IsKnownCommitted p.rank p.quorum p.history t by_node n
             → KnowsCommitted p.rank p.quorum p.history (Ack t by_node (place upto) ∷ Append t by_node l ∷ es) n
@@ -805,8 +794,8 @@ module _ {L C K D : Type 0} (k : Leaders L C K) (p : Place L C K D) (ranked : Ar
             let n : next_index (Some a) ≡ suc (suc (a.index - 1)) = omega (arith, le, at) in
             (omega (arith, at), less_known (suc i) (suc (a.index - 1)) (omega (arith, le, at)) (kn (a.index - 1) n))
 
-        by : (c : Bool) → id_lt k.cmp old.committed (least k.cmp committed upto) ≡ c
-            → next_index (if c then least k.cmp committed upto else old.committed) ≡ suc (suc i)
+        by : (c : Bool) → id_lt k.cmp old.committed (lesser_id k.cmp committed upto) ≡ c
+            → next_index (if c then lesser_id k.cmp committed upto else old.committed) ≡ suc (suc i)
             → KnowsCommitted p.rank p.quorum p.history (Ack t by_node (place upto) ∷ Append t by_node l ∷ es) (suc i)
         by false e at = after_ack l (place upto) may.append (suc i) (is.committed i at)
         by true e at =

@@ -31,8 +31,8 @@ use Rattle.raft_base.specs.declared.log_id.LogIdOf.{LogIdOf}
 use Rattle.raft_base.specs.declared.vote.VoteIn.{VoteIn}
 use Rattle.raft_base.specs.LogId.{id_le, id_lt, index_of, next_index, same_ids}
 use Rattle.raft_base.specs.Vote.{vote_cmp}
-use Rattle.raft_handlers.specs.Append.{greatest, least}
-use Rattle.raft_handlers.specs.Follow.{elected}
+use Rattle.raft_handlers.specs.Append.{greater_id, lesser_id}
+use Rattle.raft_handlers.specs.Follow.{committed_vote_of}
 use Rattle.raft_safety.specs.Events.{Event}
 use Rattle.raft_safety.specs.Facts.{HasVoted, IsCommitted, IsElected}
 use Rattle.raft_safety.specs.Rules.{EventsFollowRules, FollowsRaft}
@@ -42,7 +42,8 @@ use Rattle.raft_state.specs.log_id_list.LogEdits.{front}
 use Rattle.raft_state.specs.log_id_list.LogReads.{id_at, last_id}
 use Rattle.raft_refinement.specs.Appending.{Follows, IsSent, IsSnapshotSent, Truncates}
 use Rattle.raft_refinement.specs.Electing.{KnowsMatches, KnowsVotes}
-use Rattle.raft_refinement.specs.Server.{AreRanked, IsInLog, IsServer, IsWhole, Leaders, Place, State}
+use Rattle.raft_refinement.specs.Server.{AreRanked, IsInLog, IsServer, Leaders, Place, State}
+use Rattle.raft_refinement.proofs.Whole.{IsWhole}
 use Rattle.raft_refinement.specs.Voting.{IsAsked, VotesByRule}
 
 -- what the contract of `handle_append_entries` speaks of, over log ids: a log id is absent, its index is
@@ -79,8 +80,8 @@ module _ {L C K D : Type 0} (k : Leaders L C K) (p : Place L C K D) where
   -- what the contract of `handle_append_entries` says if the answer is `Matches upto`
   pub record AppendMatches (leader : L) (prev : Option (LogIdOf C)) (ids : List (LogIdOf C))
       (committed upto : Option (LogIdOf C)) (old new : State L C) : Type 0 where
-    pub followed : partial_ge (vote_cmp k.order) (elected leader) old.vote ≡ true
-    pub vote : new.vote ≡ elected leader
+    pub followed : partial_ge (vote_cmp k.order) (committed_vote_of leader) old.vote ≡ true
+    pub vote : new.vote ≡ committed_vote_of leader
     pub is_upto : upto ≡ option_or (last_id ids) prev
     pub has_prev : purged_or_logged k.eq new prev ≡ true
     pub has_entries : list_all (λ id. purged_or_logged k.eq new (Some id)) ids ≡ true
@@ -89,14 +90,14 @@ module _ {L C K D : Type 0} (k : Leaders L C K) (p : Place L C K D) where
         → same_ids k.eq (id_at new.ids i) (id_at old.ids i) ≡ true
     pub nothing_new : fresh_of k.eq old ids ≡ [] → new.ids ≡ old.ids
     pub ends : last_id new.ids ≡ option_or (last_id (fresh_of k.eq old ids)) (last_id old.ids)
-    pub committed_is : new.committed ≡ greatest k.cmp old.committed (least k.cmp committed upto)
+    pub committed_is : new.committed ≡ greater_id k.cmp old.committed (lesser_id k.cmp committed upto)
     pub purged : new.purged_next ≡ old.purged_next
 
   -- and if the answer is `Conflict at`
   pub record AppendConflicts (leader : L) (prev : Option (LogIdOf C)) (at : ℕ) (old new : State L C)
       : Type 0 where
-    pub followed : partial_ge (vote_cmp k.order) (elected leader) old.vote ≡ true
-    pub vote : new.vote ≡ elected leader
+    pub followed : partial_ge (vote_cmp k.order) (committed_vote_of leader) old.vote ≡ true
+    pub vote : new.vote ≡ committed_vote_of leader
     pub index : index_of prev ≡ Some at
     pub conflict : purged_or_logged k.eq old prev ≡ false
     pub truncated : new.ids ≡ front old.ids at
@@ -124,8 +125,8 @@ module _ {L C K D : Type 0} (k : Leaders L C K) (p : Place L C K D) where
     pub dropped : same_ids k.eq (id_at old.ids upto.index) (Some upto) ≡ false → new.ids ≡ upto ∷ []
 
   pub record InstallMatches (leader : L) (upto : LogIdOf C) (old new : State L C) : Type 0 where
-    pub followed : partial_ge (vote_cmp k.order) (elected leader) old.vote ≡ true
-    pub vote : new.vote ≡ elected leader
+    pub followed : partial_ge (vote_cmp k.order) (committed_vote_of leader) old.vote ≡ true
+    pub vote : new.vote ≡ committed_vote_of leader
     pub either : IsKnownSnapshot upto old new ⊎ IsInstalled upto old new
 
 -- a server that handles a request for a vote keeps rule 1

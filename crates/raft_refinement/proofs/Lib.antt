@@ -1,3 +1,4 @@
+pub mod Whole
 pub mod Calls
 pub mod Stepping
 pub mod Views

@@ -32,7 +32,7 @@ use Rattle.raft_base.specs.declared.log_id.LogIdOf.{LogIdOf}
 use Rattle.raft_base.specs.declared.vote.VoteIn.{VoteIn}
 use Rattle.raft_base.specs.LogId.{next_index}
 use Rattle.raft_base.specs.Vote.{vote_cmp}
-use Rattle.raft_handlers.specs.Follow.{elected}
+use Rattle.raft_handlers.specs.Follow.{committed_vote_of}
 use Rattle.std.specs.Ordering.{partial_ge}
 use Rattle.raft_safety.specs.Log.{Entry, IsPrefix}
 use Rattle.raft_safety.specs.Events.{Ack, Append, Event, GrantVote, History, log_after, term_after}
@@ -275,10 +275,10 @@ module _ {L C K D M : Type 0} (c : SeenCluster L C K D M) (is_cluster : IsSeenCl
   -- so is the vote of a leader
   leader_promised : (leader : L) (n : K) → IsAmong leader c.leaders → c.kind.voted leader ≡ Some n
       → IsElected c.rank (is_quorum c.rank c.config_of c.initial c.quorum_of) inv.h (c.kind.committed leader) n
-      → (after : History C K D) → GoesOn c s inv.h inv.earlier after → (v.servers s).vote ≡ elected leader
+      → (after : History C K D) → GoesOn c s inv.h inv.earlier after → (v.servers s).vote ≡ committed_vote_of leader
       → IsPromised c after (v.servers s).vote
   leader_promised leader n in_use for el =
-      vote_promised (elected leader) (record {
+      vote_promised (committed_vote_of leader) (record {
         in_use = in_use;
         own = λ m real same.
             subst (λ (x : K). HasVoted (c.kind.committed leader) x (inv.h.events x)) (some_same n m (sym for ∙ same)) el.for_itself;

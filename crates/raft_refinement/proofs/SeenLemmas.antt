@@ -39,10 +39,10 @@ use Rattle.raft_base.specs.LogIndex.{index_le}
 use Rattle.raft_base.specs.UTime.{data_of, moment_of, utime_of}
 use Rattle.raft_base.specs.declared.log_id.LogIdOf.{LogIdOf}
 use Rattle.raft_base.specs.declared.vote.VoteIn.{VoteIn}
-use Rattle.raft_handlers.specs.Append.{Answers, greatest, has_all, has_entry, least, new_of, replaced_since}
+use Rattle.raft_handlers.specs.Append.{Answers, greater_id, has_all, has_entry, lesser_id, entries_to_append, replaced_since}
 use Rattle.raft_handlers.specs.Compared.{LeaderMembers, compared}
 use Rattle.raft_handlers.specs.Entries.{entry_ids}
-use Rattle.raft_handlers.specs.Follow.{elected, heard, is_followed, vote_heard}
+use Rattle.raft_handlers.specs.Follow.{committed_vote_of, heard, is_followed, vote_heard}
 use Rattle.raft_handlers.specs.Snapshot.{Installs, snapshot_refusal}
 use Rattle.raft_handlers.specs.declared.message.AppendEntries.{AppendEntries}
 use Rattle.raft_handlers.specs.declared.message.Outcome.{Outcome}
@@ -69,7 +69,8 @@ use Rattle.raft_state.proofs.lemmas.sound.LoggedIds.{ends_before, in_log, in_ord
 use Rattle.raft_state.proofs.lemmas.sound.SoundCalls.{purge_before, purge_point_in}
 use Rattle.raft_state.proofs.lemmas.validate.RelationLemmas.{all_hold}
 use Rattle.raft_refinement.specs.Seen.{leaders_of, seen}
-use Rattle.raft_refinement.specs.Server.{IsWhole, Place}
+use Rattle.raft_refinement.specs.Server.{Place}
+use Rattle.raft_refinement.proofs.Whole.{IsWhole}
 use Rattle.raft_refinement.proofs.Calls.{
   AppendConflicts,
   AppendMatches,
@@ -152,13 +153,13 @@ drop_next : {A : Type 0} (n : ℕ) (x : A) (xs : List A) → drop (1 + n) (x ∷
 drop_next n x xs = let e : 1 + n ≡ suc n = omega arith in rw e refl
 
 module _ {K N I L C D : Type 0} (eq : C → C → Bool) (s : RaftStateIn K N I L C) where
-  pub fresh_ids : (es : List (EntryOf C K N D)) → fresh_of eq (seen s) (entry_ids es) ≡ entry_ids (new_of eq s es)
+  pub fresh_ids : (es : List (EntryOf C K N D)) → fresh_of eq (seen s) (entry_ids es) ≡ entry_ids (entries_to_append eq s es)
   fresh_ids [] = refl
   fresh_ids (e ∷ es) = by (purged_or_logged eq (seen s) (Some e.log_id)) refl (fresh_ids es)
     where
       by : (b : Bool) → purged_or_logged eq (seen s) (Some e.log_id) ≡ b
-          → fresh_of eq (seen s) (entry_ids es) ≡ entry_ids (new_of eq s es)
-          → fresh_of eq (seen s) (entry_ids (e ∷ es)) ≡ entry_ids (new_of eq s (e ∷ es))
+          → fresh_of eq (seen s) (entry_ids es) ≡ entry_ids (entries_to_append eq s es)
+          → fresh_of eq (seen s) (entry_ids (e ∷ es)) ≡ entry_ids (entries_to_append eq s (e ∷ es))
       by true h rest =
           rw h
           (drop_next (prefix_len (λ id. purged_or_logged eq (seen s) (Some id)) (entry_ids es)) e.log_id (entry_ids es) ∙ rest
@@ -189,10 +190,11 @@ none_left (e ∷ es) h = cc
 
 -- a server that follows a leader has the leader's vote
 heard_vote : {K N I L C : Type 0} (kind : LeaderMembers L K C) (old new : RaftStateIn K N I L C) (leader : L)
-    → new.vote ≡ vote_heard kind.order leader old → is_followed kind.order leader old ≡ true → vote_of new ≡ elected leader
+    → new.vote ≡ vote_heard kind.order leader old → is_followed kind.order leader old ≡ true → vote_of new ≡ committed_vote_of leader
 heard_vote kind old new leader vote follows = ap data_of vote ∙ taken (is_followed kind.order leader old) follows
   where
-    taken : (b : Bool) → b ≡ true → data_of (if b then utime_of (elected leader) (moment_of old.vote) else old.vote) ≡ elected leader
+    taken : (b : Bool) → b ≡ true
+        → data_of (if b then utime_of (committed_vote_of leader) (moment_of old.vote) else old.vote) ≡ committed_vote_of leader
     taken true e = refl
     taken false e = absurd (false≢true e)
 
@@ -214,13 +216,13 @@ module _ {K N I L C D E : Type 0} (ids : OrdMembers K) (node_eq : N → N → Bo
         has_entries = all_ids logs.eq new request.entries.items t.has_entries;
         consecutive = same_row request.prev (entry_ids request.entries.items) (and_parts _ (are_in_row request.prev
             (entry_ids request.entries.items)) t.in_order).1;
-        kept = λ i lt. t.kept i (rw (same_since (full_log old.log_ids) (new_of logs.eq old request.entries.items))
+        kept = λ i lt. t.kept i (rw (same_since (full_log old.log_ids) (entries_to_append logs.eq old request.entries.items))
             (rw (fresh_ids logs.eq old request.entries.items) at lt));
-        nothing_new = λ none. ap full_log (t.nothing_new (none_left (new_of logs.eq old request.entries.items) (sym
+        nothing_new = λ none. ap full_log (t.nothing_new (none_left (entries_to_append logs.eq old request.entries.items) (sym
             (fresh_ids logs.eq old request.entries.items) ∙ none)));
         ends = rw (fresh_ids logs.eq old request.entries.items) t.ends;
         committed_is = t.committed
-            ∙ ap (λ (o : Option (LogIdOf C)). greatest logs.cmp old.committed (least logs.cmp request.committed o)) (sym a.0);
+            ∙ ap (λ (o : Option (LogIdOf C)). greater_id logs.cmp old.committed (lesser_id logs.cmp request.committed o)) (sym a.0);
         purged = purged;
       }
 
@@ -484,7 +486,7 @@ module _ {K N I L C : Type 0} {ids : OrdMembers K} {kind : LeaderMembers L K C} 
                   snapshot_meta = new.snapshot_meta;
                 })) same h
 
-        greater : (o : Option (LogIdOf C)) → o ≡ Some upto → greatest logs.cmp old.committed o ≡ Some upto
+        greater : (o : Option (LogIdOf C)) → o ≡ Some upto → greater_id logs.cmp old.committed o ≡ Some upto
         greater o f = pick (id_lt logs.cmp old.committed o) (ap (λ (z : Option (LogIdOf C)). id_lt logs.cmp old.committed z) f ∙ e)
           where
             pick : (b : Bool) → b ≡ true → (if b then o else old.committed) ≡ Some upto

@@ -8,7 +8,8 @@ use Rattle.raft_safety.specs.Facts.{HasAcked, HasVoted, IsElected}
 use Rattle.raft_safety.specs.Configs.{QuorumsIntersect, is_quorum}
 use Rattle.raft_safety.specs.Execution.{FactsAreStable, IsExecution}
 use Rattle.raft_safety.specs.Ranks.{IsAmong}
-use Rattle.raft_refinement.specs.Server.{AreRanked, IsServer, IsWhole, Leaders, Place, State}
+use Rattle.raft_refinement.specs.Server.{AreRanked, IsServer, Leaders, Place, State}
+use Rattle.raft_refinement.proofs.Whole.{IsWhole}
 use Rattle.raft_refinement.specs.Voting.{IsAsked}
 use Rattle.raft_refinement.proofs.Calls.{AppendConflicts, AppendMatches, HandlesVoteRequest, InstallMatches}
 use Rattle.raft_refinement.specs.Appending.{InLogIfAny, IsSent, IsSnapshotSent}

@@ -37,7 +37,7 @@ use Rattle.raft_handlers.specs.Append.{Answers, IfHigherVote}
 use Rattle.raft_handlers.specs.Campaign.{Campaign, has_vote_of, is_counted}
 use Rattle.raft_handlers.specs.Compared.{LeaderMembers, compared}
 use Rattle.raft_handlers.specs.Entries.{entry_ids}
-use Rattle.raft_handlers.specs.Follow.{elected, heard, is_followed}
+use Rattle.raft_handlers.specs.Follow.{committed_vote_of, heard, is_followed}
 use Rattle.raft_handlers.specs.Leadership.{Leadership, MajorityMatches, entry_of, granted_by, is_of_leader}
 use Rattle.raft_handlers.specs.Responses.{SendsNext}
 use Rattle.raft_handlers.specs.Snapshot.{AnswersSnapshot}
@@ -416,7 +416,7 @@ module _ {K N I L C D : Type 0} {ids : OrdMembers K} (node_eq : N → N → Bool
 
         -- a leader that is not followed changes nothing
         unheard : (b : Bool) → b ≡ false → (record (w.servers s) {
-          vote = if b then utime_of (elected d.request.leader_id) (moment_of (w.servers s).vote) else (w.servers s).vote;
+          vote = if b then utime_of (committed_vote_of d.request.leader_id) (moment_of (w.servers s).vote) else (w.servers s).vote;
         }) ≡ w.servers s
         unheard false e = refl
         unheard true e = absurd (true≢false e)

@@ -9,8 +9,9 @@ use Rattle.std.specs.Ordering.{partial_ge}
 use Rattle.raft_safety.specs.Events.{History}
 use Rattle.raft_state.specs.log_id_list.LogReads.{id_at, last_id}
 use Rattle.raft_safety.specs.Ranks.{IsAmong}
-use Rattle.raft_refinement.specs.Server.{IsWhole, State}
-use Rattle.raft_handlers.specs.Follow.{elected}
+use Rattle.raft_refinement.specs.Server.{State}
+use Rattle.raft_refinement.proofs.Whole.{IsWhole}
+use Rattle.raft_handlers.specs.Follow.{committed_vote_of}
 use Rattle.raft_refinement.proofs.Calls.{AppendConflicts, AppendMatches, HandlesVoteRequest, InstallMatches}
 use Rattle.raft_refinement.proofs.Stepping.{SeenCluster, IsSeenCluster, at_server}
 
@@ -127,7 +128,7 @@ module _ {L C K D M : Type 0} (c : SeenCluster L C K D M) (s : K) (w v : SeenWor
     pub counts : K → Bool
     pub votes : (r : K) → counts r ≡ true → (r ≡ s) ⊎ IsAmong (SeenVoted r (w.servers s).vote) w.network
     pub majority : c.quorum_of c.initial counts ≡ true
-    pub call : v.servers s ≡ record (w.servers s) { vote = elected (w.servers s).vote.leader_id }
+    pub call : v.servers s ≡ record (w.servers s) { vote = committed_vote_of (w.servers s).vote.leader_id }
     pub sends : v.network ≡ w.network
 
   -- the server leads

@@ -37,7 +37,7 @@ use Rattle.raft_handlers.specs.Append.{Answers, IfHigherVote}
 use Rattle.raft_handlers.specs.Campaign.{Campaign, Campaigns, CountsVoteOf, grants_vote, has_vote_of, is_counted, same_vote}
 use Rattle.raft_handlers.specs.Compared.{LeaderMembers, compared}
 use Rattle.raft_handlers.specs.Entries.{entry_ids}
-use Rattle.raft_handlers.specs.Follow.{elected, heard, is_followed, vote_heard}
+use Rattle.raft_handlers.specs.Follow.{committed_vote_of, heard, is_followed, vote_heard}
 use Rattle.raft_handlers.specs.Leadership.{BecomesLeader, Commits, Leadership, MajorityMatches, entry_of, granted_by, is_of_leader}
 use Rattle.raft_handlers.specs.Snapshot.{AnswersSnapshot, RefusedFor, snapshot_refusal}
 use Rattle.raft_handlers.specs.declared.error.AppendError.{AppendError}
@@ -71,7 +71,8 @@ use Rattle.raft_state.proofs.lemmas.log_id_list.ExtendLemmas.{is_key_list}
 use Rattle.raft_refinement.specs.Appending.{AnswersByRule, Follows, IsSent, IsSnapshotSentTo}
 use Rattle.raft_refinement.specs.Electing.{HasCommitted, KnowsMatches, KnowsVotes, match_of}
 use Rattle.raft_refinement.specs.Seen.{leaders_of, seen}
-use Rattle.raft_refinement.specs.Server.{IsInHistory, IsInLog, IsServer, IsWhole, KnowsCommitted, Leaders, Place, State}
+use Rattle.raft_refinement.specs.Server.{IsInHistory, IsInLog, IsServer, KnowsCommitted, Leaders, Place, State}
+use Rattle.raft_refinement.proofs.Whole.{IsWhole}
 use Rattle.raft_refinement.specs.Voting.{CampaignsByRule}
 use Rattle.raft_refinement.proofs.AppendingLemmas.{appends_keep_rules, at_within, installs_keep_rules}
 use Rattle.raft_refinement.proofs.ElectingLemmas.{commits_by_rule, counts_keep_votes, elects_by_rule}
@@ -157,7 +158,7 @@ unheard : {K N I L C : Type 0} (kind : LeaderMembers L K C) (leader : L) (s : Ra
 unheard kind leader s none = by (is_followed kind.order leader s) none
   where
     by : (b : Bool) → b ≡ false
-        → (record s { vote = if b then utime_of (elected leader) (moment_of s.vote) else s.vote }) ≡ s
+        → (record s { vote = if b then utime_of (committed_vote_of leader) (moment_of s.vote) else s.vote }) ≡ s
     by false e = refl
     by true e = absurd (true≢false e)
 

@@ -78,15 +78,6 @@ module _ {C D : Type 0} (first : C) where
   IsLastId terms log (Some id) =
       (length log ≡ id.index) × IsIdAt log id.index id × IsAmong id.leader_id terms
 
--- the log ids of a sound state: each index from the last one that is purged up to the end has its log
--- id, and there are no others
-pub record IsWhole {C : Type 0} (purged_next : ℕ) (ids : List (LogIdOf C)) : Type 0 where
-  pub present : (i : ℕ) → purged_next ≤ suc i → i < next_index (last_id ids)
-      → (y : LogIdOf C) × (id_at ids i ≡ Some y)
-  pub within : (i : ℕ) (y : LogIdOf C) → id_at ids i ≡ Some y → i < next_index (last_id ids)
-  pub purged_within : purged_next ≤ next_index (last_id ids)
-  pub at_end : (z : LogIdOf C) → last_id ids ≡ Some z → id_at ids z.index ≡ Some z
-
 module _ {C K D : Type 0} (rank : C → ℕ) (quorum : List (Entry C D) → (K → Bool) → Bool)
     (h : History C K D) where
   -- a server knows that the first n entries of its log are committed: it may apply them, because of a

@@ -3,7 +3,7 @@
 use crate::recorded::{events_of, is_rule, three};
 use raft_safety::check::check_counting;
 use raft_safety::checker::ConfigsCount;
-use raft_testing::memory::both;
+use raft_testing::memory::both_made;
 use std::alloc::{AllocError, Global};
 use std::test::Fail;
 
@@ -123,7 +123,7 @@ fn is_answered(
     let (text, name) = row.split_once(" = ").unwrap_or((row, ""));
     let mut texts = history.to_vec(alloc)?;
     texts.extend(Some(text))?;
-    let (events, configs) = both(events_of(alloc, &texts), three(alloc))?;
+    let (events, configs) = both_made(events_of(alloc, &texts), three(alloc))?;
     match check_counting(alloc, ConfigsCount::WhenApplied, configs, &events) {
         Ok(()) => Ok(name == "ok"),
         Err(refused) => Ok(

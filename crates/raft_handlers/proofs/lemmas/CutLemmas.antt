@@ -5,24 +5,21 @@ use Rattle.std.specs.Cmp.{IsEquivalence}
 use Rattle.std.specs.Option.{option_or}
 use Rattle.std.specs.Prelude.{slice_get}
 use Rattle.std.specs.declared.cmp.Ordering.{Ordering}
-use Rattle.raft_handlers.proofs.EntryLemmas.{ends_alike, front_whole, kept_through, same_log_itself}
+use Rattle.raft_handlers.proofs.lemmas.EntryLemmas.{ends_alike, front_whole, kept_through, same_log_itself}
 use Rattle.raft_handlers.proofs.lemmas.RefusalLemmas.{refused_unless_more}
-use Rattle.raft_handlers.specs.Append.{IsCut, Replaces, Stops}
 use Rattle.raft_handlers.specs.Entries.{
   are_in_order,
   effective_below,
   effective_with,
-  end_tests,
   ends_before,
   entry_ids,
   has_memberships_in_order,
   last_below,
   may_cut,
-  may_extend,
-  new_tests,
   tests_hold,
   RefusedUnless,
 }
+use Rattle.raft_handlers.specs.Inner.Log.{IsCut, Replaces, Stops, end_tests, may_extend, new_tests}
 use Rattle.raft_handlers.specs.declared.error.AppendError.{AppendError}
 use Rattle.raft_members.specs.membership.Stored.{log_id_of}
 use Rattle.raft_progress.specs.progress.Comparisons.{OrdMembers}

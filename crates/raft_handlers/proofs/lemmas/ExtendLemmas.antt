@@ -6,8 +6,8 @@ use Rattle.std.specs.Option.{option_or}
 use Rattle.std.specs.Prelude.{Result, Ok, Err, OnOk}
 use Rattle.std.specs.declared.cmp.Ordering.{Ordering}
 use Rattle.raft_handlers.proofs.lemmas.RunLemmas.{plain_stores_none}
-use Rattle.raft_handlers.specs.Append.{Extends}
-use Rattle.raft_handlers.specs.Entries.{are_plain, effective_with, entry_ids, may_extend}
+use Rattle.raft_handlers.specs.Entries.{effective_with, entry_ids}
+use Rattle.raft_handlers.specs.Inner.Log.{Extends, are_plain, may_extend}
 use Rattle.raft_members.specs.membership.Stored.{log_id_of}
 use Rattle.raft_state.proofs.lemmas.AppendedLemmas.{begins_zero, last_effective, log_and_more, none_stored}
 use Rattle.raft_state.specs.entry.Entry.{payload_membership}

@@ -30,7 +30,7 @@ use Rattle.raft_base.specs.LogIdLawful.{optional-log_id_cmp-total}
 use Rattle.raft_base.specs.declared.log_id.LogIdOf.{LogIdOf}
 use Rattle.raft_handlers.proofs.lemmas.CutLemmas.{replaces_nothing}
 use Rattle.raft_handlers.proofs.lemmas.TakeLemmas.{commit_took}
-use Rattle.raft_handlers.specs.Append.{least, Took}
+use Rattle.raft_handlers.specs.Append.{lesser_id, Took}
 use Rattle.raft_progress.proofs.lemmas.OrderLemmas.{AtMost-from_not_lt, AtMost-refl, lt_le, not_lt-from_AtMost}
 use Rattle.raft_progress.specs.progress.Comparisons.{OrdMembers}
 use Rattle.raft_state.proofs.lemmas.log_id_list.IdOrderLemmas.{none_at_most, then_below, upto_equal}
@@ -48,7 +48,7 @@ not_so false f = refl
 
 module _ {C : Type 0} (cmp : C → C → Ordering) (total : IsTotalOrder cmp) where
   -- what is not past a log id is not past the lesser one of it and another one
-  not_past_least : (a b c : Option (LogIdOf C)) → id_lt cmp c a ≡ false → id_lt cmp c (least cmp a b) ≡ false
+  not_past_least : (a b c : Option (LogIdOf C)) → id_lt cmp c a ≡ false → id_lt cmp c (lesser_id cmp a b) ≡ false
   not_past_least a b c h = by (id_lt cmp a b) refl
     where
       by : (t : Bool) → id_lt cmp a b ≡ t → id_lt cmp c (if t then a else b) ≡ false
@@ -67,7 +67,7 @@ module _ {C : Type 0} (cmp : C → C → Ordering) (total : IsTotalOrder cmp) wh
         then_below (cmp x.leader_id y.leader_id) x.index y.index leader (omega arith)
 
     -- equal committed log ids leave nothing to commit
-    pub none_to_commit : (a b c : Option (LogIdOf C)) → same_ids eq a c ≡ true → id_lt cmp c (least cmp a b) ≡ false
+    pub none_to_commit : (a b c : Option (LogIdOf C)) → same_ids eq a c ≡ true → id_lt cmp c (lesser_id cmp a b) ≡ false
     none_to_commit a b c h =
         not_past_least a b c (not_lt-from_AtMost (optional-log_id_cmp-total total) a c (equal_at_most a c h))
 

@@ -47,8 +47,8 @@ use Rattle.raft_base.specs.LogId.{id_le, id_lt, index_of, log_id_cmp, next_index
 use Rattle.raft_base.specs.LogIdLawful.{optional-log_id_cmp-total}
 use Rattle.raft_base.specs.LogIndex.{index_le, index_lt}
 use Rattle.raft_base.specs.declared.log_id.LogIdOf.{LogIdOf}
-use Rattle.raft_handlers.proofs.EntryLemmas.{same_through}
-use Rattle.raft_handlers.specs.Append.{has_entry, last_of, least, may_cut_at, may_take, new_of}
+use Rattle.raft_handlers.proofs.lemmas.EntryLemmas.{same_through}
+use Rattle.raft_handlers.specs.Append.{has_entry, last_id_of_request, lesser_id, may_cut_at, may_take, entries_to_append}
 use Rattle.raft_handlers.specs.Entries.{
   allows_commit,
   are_in_order,
@@ -161,7 +161,7 @@ purged_first {C} next i log fits is = by (next == 0) refl fits
 
 -- the last of several entries
 last_more : {C K N D : Type 0} (p : Option (LogIdOf C)) (e : EntryOf C K N D) (es : List (EntryOf C K N D))
-    → last_of p (e ∷ es) ≡ last_of (Some e.log_id) es
+    → last_id_of_request p (e ∷ es) ≡ last_id_of_request (Some e.log_id) es
 last_more p e [] = refl
 last_more p e (f ∷ es) = rw (last_of_some f.log_id (entry_ids es)) refl
 
@@ -303,7 +303,7 @@ module _ {C : Type 0} (cmp : C → C → Ordering) (eq : C → C → Bool) (tota
 
       -- the last one of them, and the last one that stores a membership, are in the log too
       last_in : (p : Option (LogIdOf C)) (es : List (EntryOf C K N D)) → in_log eq (full_log ks) p ≡ true
-          → HasIds eq (entry_ids es) (full_log ks) → in_log eq (full_log ks) (last_of p es) ≡ true
+          → HasIds eq (entry_ids es) (full_log ks) → in_log eq (full_log ks) (last_id_of_request p es) ≡ true
       last_in p [] there own = there
       last_in p (e ∷ es) there own =
           rw (last_more p e es) (last_in (Some e.log_id) es (own 0 e.log_id refl) (λ n id at. own (suc n) id at))
@@ -544,7 +544,7 @@ module _ {C : Type 0} (cmp : C → C → Ordering) (eq : C → C → Bool) (tota
     ]
 
     least_in : (a b : Option (LogIdOf C)) → in_log eq (full_log ks) a ≡ true → in_log eq (full_log ks) b ≡ true
-        → (in_log eq (full_log ks) (least cmp a b) ≡ true) × (next_index (least cmp a b) ≤ next_index b)
+        → (in_log eq (full_log ks) (lesser_id cmp a b) ≡ true) × (next_index (lesser_id cmp a b) ≤ next_index b)
     least_in a b h g = by (id_lt cmp a b) refl
       where
         by : (t : Bool) → t ≡ id_lt cmp a b
@@ -595,9 +595,9 @@ module _ {C : Type 0} (cmp : C → C → Ordering) (eq : C → C → Bool) (tota
       IsFresh (e ∷ es) = has_entry eq s e ≡ false
 
       abbrev Split : Option (LogIdOf C) → List (EntryOf C K N D) → List (EntryOf C K N D) → Type 0
-      Split q xs rest = (l : Option (LogIdOf C)) × AreNew l rest × IsFresh rest × (last_of l rest ≡ last_of q xs)
+      Split q xs rest = (l : Option (LogIdOf C)) × AreNew l rest × IsFresh rest × (last_id_of_request l rest ≡ last_id_of_request q xs)
 
-      split : (p : Option (LogIdOf C)) (es : List (EntryOf C K N D)) → AreNew p es → Split p es (new_of eq s es)
+      split : (p : Option (LogIdOf C)) (es : List (EntryOf C K N D)) → AreNew p es → Split p es (entries_to_append eq s es)
       split p [] new = (p, new, tt, refl)
       split p (e ∷ es) new = by (has_entry eq s e) refl (λ h. split (Some e.log_id) es (later h))
         where
@@ -609,7 +609,7 @@ module _ {C : Type 0} (cmp : C → C → Ordering) (eq : C → C → Bool) (tota
             own = λ n id at. new.own (suc n) id at;
           }
 
-          by : (t : Bool) → has_entry eq s e ≡ t → (has_entry eq s e ≡ true → Split (Some e.log_id) es (new_of eq s es))
+          by : (t : Bool) → has_entry eq s e ≡ t → (has_entry eq s e ≡ true → Split (Some e.log_id) es (entries_to_append eq s es))
               → Split p (e ∷ es) (drop (if t then 1 + prefix_len (has_entry eq s) es else 0) (e ∷ es))
           by true h more =
               let n : 1 + prefix_len (has_entry eq s) es ≡ suc (prefix_len (has_entry eq s) es) = omega arith in
@@ -618,7 +618,7 @@ module _ {C : Type 0} (cmp : C → C → Ordering) (eq : C → C → Bool) (tota
           by false h more = (p, new, h, refl)
 
       commit_may : (p : Option (LogIdOf C)) (new : List (EntryOf C K N D)) (id : Option (LogIdOf C)) → AreNew p new
-          → in_log eq (full_log ks) id ≡ true → next_index id ≤ next_index (last_of p new)
+          → in_log eq (full_log ks) id ≡ true → next_index id ≤ next_index (last_id_of_request p new)
           → id_lt cmp s.committed id ≡ true → has_with eq (full_log s.log_ids) (entry_ids new) id ≡ true
       commit_may p new None are_new own le up = refl
       commit_may p [] (Some x) are_new own le up =
@@ -655,7 +655,7 @@ module _ {C : Type 0} (cmp : C → C → Ordering) (eq : C → C → Bool) (tota
           by false e = refl
 
       take_new : (p : Option (LogIdOf C)) (new : List (EntryOf C K N D)) (id : Option (LogIdOf C)) → AreNew p new → IsFresh new
-          → in_log eq (full_log ks) id ≡ true → next_index id ≤ next_index (last_of p new) → may_take_new eq cmp new id s ≡ true
+          → in_log eq (full_log ks) id ≡ true → next_index id ≤ next_index (last_id_of_request p new) → may_take_new eq cmp new id s ≡ true
       take_new p [] id are_new fresh own le =
           both_true refl (both_true refl (may_commit (log_id_of s.membership_state.effective) [] id
           (λ up. commit_may p [] id are_new own le up)
@@ -701,15 +701,15 @@ module _ {C : Type 0} (cmp : C → C → Ordering) (eq : C → C → Bool) (tota
 
           by : (t : Bool) → purged_or_logged eq s prev ≡ t
               → (if t then are_in_order cmp prev es
-              && may_take_new eq cmp (new_of eq s es) (least cmp committed (last_of prev es)) s
+              && may_take_new eq cmp (entries_to_append eq s es) (lesser_id cmp committed (last_id_of_request prev es)) s
               else may_cut_at cmp prev s) ≡ true
           by true h =
               let are_new : AreNew prev es =
               record { here = h; there = there; consecutive = piece.consecutive; own = piece.has_entries } in
               let r = split prev es are_new in
               let last = last_in ks keys prev es there piece.has_entries in
-              let id = least_in committed (last_of prev es) (as_in_log (full_log ks) committed piece.has_committed) last in
+              let id = least_in committed (last_id_of_request prev es) (as_in_log (full_log ks) committed piece.has_committed) last in
               let follow = entries_follow ks keys prev es there piece.has_entries piece.consecutive in
               both_true (both_true follow piece.consecutive)
-              (take_new r.0 (new_of eq s es) (least cmp committed (last_of prev es)) r.1 r.2 id.0 (rw r.3 id.1))
+              (take_new r.0 (entries_to_append eq s es) (lesser_id cmp committed (last_id_of_request prev es)) r.1 r.2 id.0 (rw r.3 id.1))
           by false h = cut prev there h

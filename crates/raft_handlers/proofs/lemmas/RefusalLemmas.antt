@@ -5,7 +5,7 @@ use Rattle.std.specs.Cmp.Derive.{both_true}
 use Rattle.std.specs.declared.cmp.Ordering.{Ordering}
 use Rattle.raft_base.specs.LogId.{id_lt}
 use Rattle.raft_base.specs.declared.log_id.LogIdOf.{LogIdOf}
-use Rattle.raft_handlers.specs.Append.{append_tests, last_of, least, may_cut_at, may_take, new_of, take_tests}
+use Rattle.raft_handlers.specs.Append.{append_tests, last_id_of_request, lesser_id, may_cut_at, may_take, entries_to_append, take_tests}
 use Rattle.raft_handlers.specs.Entries.{
   allows_commit,
   allows_commit_past,
@@ -71,17 +71,17 @@ module _ {K N I L C D : Type 0} (eq : C → C → Bool) (cmp : C → C → Order
     (s : RaftStateIn K N I L C) where
   -- a request that may be taken is refused only if an allocation failed
   pub taken_error : (committed : Option (LogIdOf C)) (e : AppendError) → may_take eq cmp prev es committed s ≡ true
-      → RefusedUnless (append_tests (purged_or_logged eq s prev) eq cmp prev es (least cmp committed (last_of prev es)) s) e
+      → RefusedUnless (append_tests (purged_or_logged eq s prev) eq cmp prev es (lesser_id cmp committed (last_id_of_request prev es)) s) e
       → e ≡ OutOfMemory
   taken_error committed e may refused = by (purged_or_logged eq s prev) may refused
     where
       by : (t : Bool) → (if t then are_in_order cmp prev es
-          && may_take_new eq cmp (new_of eq s es) (least cmp committed (last_of prev es)) s
+          && may_take_new eq cmp (entries_to_append eq s es) (lesser_id cmp committed (last_id_of_request prev es)) s
           else may_cut_at cmp prev s) ≡ true
-          → RefusedUnless (append_tests t eq cmp prev es (least cmp committed (last_of prev es)) s) e → e ≡ OutOfMemory
+          → RefusedUnless (append_tests t eq cmp prev es (lesser_id cmp committed (last_id_of_request prev es)) s) e → e ≡ OutOfMemory
       by true h r =
-          let new = new_of eq s es in
-          let id = least cmp committed (last_of prev es) in
+          let new = entries_to_append eq s es in
+          let id = lesser_id cmp committed (last_id_of_request prev es) in
           let order = are_in_order cmp (last_before new s) new in
           let members = has_memberships_in_order cmp (effective_before new s) new in
           let effective = effective_with (effective_before new s) new in

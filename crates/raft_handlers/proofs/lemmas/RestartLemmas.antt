@@ -56,10 +56,9 @@ use Rattle.raft_handlers.proofs.lemmas.TakeLemmas.{
   commit_snapshot,
   commit_takes,
 }
-use Rattle.raft_handlers.specs.Append.{greatest, memberships_before, Replaces, TakesMemberships}
+use Rattle.raft_handlers.specs.Append.{greater_id, memberships_before, TakesMemberships}
 use Rattle.raft_handlers.specs.Entries.{
   allows_commit_past,
-  commit_tests,
   effective_before,
   effective_with,
   ends_before,
@@ -69,7 +68,6 @@ use Rattle.raft_handlers.specs.Entries.{
   keeps_committed,
   last_before,
   log_with_new,
-  new_tests,
 }
 use Rattle.raft_handlers.specs.Restart.{
   entries_past,
@@ -79,7 +77,6 @@ use Rattle.raft_handlers.specs.Restart.{
   snapshot_membership,
   AppendsStored,
   CommitsKnown,
-  HasSnapshotAlone,
   IsMembershipAt,
   IsRefusedWith,
   IsRestartRefusal,
@@ -87,7 +84,9 @@ use Rattle.raft_handlers.specs.Restart.{
   Restores,
 }
 use Rattle.raft_handlers.specs.Entries.{RefusedUnless}
-use Rattle.raft_handlers.specs.Snapshot.{install_refusal, InstallsSnapshot, RefusedFor, RefusedUnlessFits}
+use Rattle.raft_handlers.specs.Snapshot.{install_refusal, InstallsSnapshot, RefusedFor}
+use Rattle.raft_handlers.specs.Inner.Log.{Replaces, commit_tests, new_tests}
+use Rattle.raft_handlers.specs.Inner.Restart.{HasSnapshotAlone, RefusedUnlessFits}
 use Rattle.raft_handlers.specs.declared.error.AppendError.{AppendError}
 use Rattle.raft_handlers.specs.declared.error.AppendError.TheVariants.{
   CommittedNotLogged,
@@ -371,7 +370,7 @@ module _ {K N I L C : Type 0} (id_eq : K → K → Bool) (same : N → N → Boo
           let logs : end.log_ids ≡ mid.log_ids = ap (λ t. t.log_ids) rest ∙ commit_log ord.cmp committed mid after commits in
           let takes = commit_takes ord id_eq same new committed s mid replaced after commits in
           let stays : mid.committed ≡ s.committed = ap (λ t. t.committed) replaced.rest in
-          let now : after.committed ≡ greatest ord.cmp meta.last_log_id committed =
+          let now : after.committed ≡ greater_id ord.cmp meta.last_log_id committed =
           rw (rw alone.committed at stays) at (commit_committed ord.cmp committed mid after commits) in
           record {
             log = rw (is, logs) (rw b.4 at replaced.log);

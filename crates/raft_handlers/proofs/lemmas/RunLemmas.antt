@@ -41,7 +41,8 @@ use Rattle.std.specs.declared.cmp.Ordering.{Ordering}
 use Rattle.std.specs.declared.cmp.Ordering.TheVariants.{Less, Equal, Greater}
 use Rattle.raft_base.specs.LogId.{next_index, same_id, same_ids}
 use Rattle.raft_base.specs.declared.log_id.LogIdOf.{LogIdOf}
-use Rattle.raft_handlers.specs.Entries.{are_in_order, are_plain, continue_from, entry_ids, has_memberships_in_order, stores_membership}
+use Rattle.raft_handlers.specs.Entries.{are_in_order, entry_ids, has_memberships_in_order}
+use Rattle.raft_handlers.specs.Inner.Log.{are_plain, continue_from, stores_membership}
 use Rattle.raft_state.proofs.lemmas.log_id_list.FrontLemmas.{last_at}
 use Rattle.raft_state.proofs.lemmas.log_id_list.IdOrderLemmas.{leaders_symm, leaders_trans}
 use Rattle.raft_state.proofs.lemmas.log_id_list.OrderLemmas.{From}

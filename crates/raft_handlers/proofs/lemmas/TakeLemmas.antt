@@ -36,19 +36,19 @@ use Rattle.raft_base.specs.LogId.{id_lt, index_of}
 use Rattle.raft_base.specs.declared.log_id.LogIdOf.{LogIdOf}
 use Rattle.raft_base.specs.declared.utime.UTime.{UTime}
 use Rattle.raft_base.specs.declared.vote.VoteIn.{VoteIn}
-use Rattle.raft_handlers.proofs.EntryLemmas.{entries_present, has_after_entries, has_alike, has_with_alone, prev_stays}
+use Rattle.raft_handlers.proofs.lemmas.EntryLemmas.{entries_present, has_after_entries, has_alike, has_with_alone, prev_stays}
 use Rattle.raft_handlers.proofs.lemmas.RefusalLemmas.{refused_unless_more}
 use Rattle.raft_handlers.specs.Append.{
   accepted_before,
   append_tests,
-  greatest,
+  greater_id,
   has_entry,
-  last_of,
-  least,
+  last_id_of_request,
+  lesser_id,
   log_before,
   may_cut_at,
   memberships_before,
-  new_of,
+  entries_to_append,
   replaced_since,
   take_tests,
   Answers,
@@ -56,38 +56,33 @@ use Rattle.raft_handlers.specs.Append.{
   HasReplaced,
   IfHigherVote,
   IsConflict,
-  IsCut,
   IsCutBefore,
   IsLeftBy,
   IsLogKept,
   KeepsBelow,
   Refused,
   Refuses,
-  Replaces,
-  Stops,
   TakesMemberships,
   Took,
 }
 use Rattle.raft_handlers.specs.Entries.{
   allows_commit_past,
   are_in_order,
-  commit_tests,
   effective_before,
   effective_with,
   entry_ids,
   has_committed_with,
   has_id,
   has_memberships_in_order,
-  has_past_committed,
   has_with,
   keeps_committed,
   last_before,
   may_cut,
-  new_tests,
   tests_hold,
   RefusedUnless,
   TakeTests,
 }
+use Rattle.raft_handlers.specs.Inner.Log.{IsCut, Replaces, Stops, commit_tests, has_past_committed, new_tests}
 use Rattle.raft_handlers.specs.Follow.{heard, is_followed}
 use Rattle.raft_handlers.specs.declared.error.AppendError.{AppendError}
 use Rattle.raft_handlers.specs.declared.error.AppendError.TheVariants.{NotInOrder}
@@ -165,7 +160,7 @@ module _ {K N I L C : Type 0} (cmp : C → C → Ordering) (id : Option (LogIdOf
       by true e = rw e refl
       by false e = rw e refl
 
-  pub commit_committed : new.committed ≡ greatest cmp s.committed id
+  pub commit_committed : new.committed ≡ greater_id cmp s.committed id
   commit_committed = by (id_lt cmp s.committed id) is
     where
       by : (t : Bool) → new ≡ After t → new.committed ≡ (if t then id else s.committed)
@@ -259,7 +254,7 @@ module _ {K N I L C D : Type 0} (ord : OrdMembers C) (id_eq : K → K → Bool) 
       → Refused ord id_eq same (take_tests ord.eq ord.cmp prev es id old) prev es NotInOrder old old
   disorder_refused h = record {
     reason = rw h refl;
-    kept = kept_itself (replaced_since (full_log old.log_ids) (new_of ord.eq old es));
+    kept = kept_itself (replaced_since (full_log old.log_ids) (entries_to_append ord.eq old es));
     left = inl nothing_left;
     rest = refl;
   }
@@ -276,10 +271,10 @@ module _ {K N I L C D : Type 0} (ord : OrdMembers C) (id_eq : K → K → Bool) 
         let stops = subst (λ (m : ℕ). Stops ord (drop m es) old new) is stopped in
         let vote : new.vote ≡ old.vote = ap (λ s. s.vote) stops.rest in
         record {
-          reason = refused_unless_more (new_tests ord.cmp (new_of ord.eq old es) old) (take_tests ord.eq ord.cmp prev es id old)
+          reason = refused_unless_more (new_tests ord.cmp (entries_to_append ord.eq old es) old) (take_tests ord.eq ord.cmp prev es id old)
               (λ h. h)
               (λ h. and_right (are_in_order ord.cmp prev es)
-              (are_in_order ord.cmp (last_before (new_of ord.eq old es) old) (new_of ord.eq old es)) h)
+              (are_in_order ord.cmp (last_before (entries_to_append ord.eq old es) old) (entries_to_append ord.eq old es)) h)
               (λ h. rw h refl) (λ h. absurd (true≢false h)) e reason;
           kept = stops.kept;
           left = elim stops.left [
@@ -296,7 +291,7 @@ module _ {K N I L C D : Type 0} (ord : OrdMembers C) (id_eq : K → K → Bool) 
 
     -- or they are in the log, and a commit is tried then
     module _ (mid : RaftStateIn K N I L C) (replaced : Replaces ord id_eq same (drop n es) old mid) where
-      now : Replaces ord id_eq same (new_of ord.eq old es) old mid
+      now : Replaces ord id_eq same (entries_to_append ord.eq old es) old mid
       now = subst (λ (m : ℕ). Replaces ord id_eq same (drop m es) old mid) is replaced
 
       purged : mid.purged_next ≡ old.purged_next
@@ -316,11 +311,13 @@ module _ {K N I L C D : Type 0} (ord : OrdMembers C) (id_eq : K → K → Bool) 
           rw stays (record {
             reason = refused_unless_more (commit_tests ord.eq ord.cmp id mid) (take_tests ord.eq ord.cmp prev es id old)
                 (λ h. absurd (true≢false h)) (λ h. absurd (true≢false h))
-                (λ h. and_right (has_memberships_in_order ord.cmp (effective_before (new_of ord.eq old es) old) (new_of ord.eq old es))
-                (allows_commit_past ord.cmp (effective_with (effective_before (new_of ord.eq old es) old) (new_of ord.eq old es))
+                (λ h. and_right (has_memberships_in_order ord.cmp (effective_before (entries_to_append ord.eq old es) old)
+                (entries_to_append ord.eq old es))
+                (allows_commit_past ord.cmp (effective_with (effective_before (entries_to_append ord.eq old es) old)
+                (entries_to_append ord.eq old es))
                 old.committed id)
-                (commit_allows ord id_eq same (new_of ord.eq old es) id old mid now false h))
-                (commit_lacks ord id_eq same (new_of ord.eq old es) id old mid now eqs) e why;
+                (commit_allows ord id_eq same (entries_to_append ord.eq old es) id old mid now false h))
+                (commit_lacks ord id_eq same (entries_to_append ord.eq old es) id old mid now eqs) e why;
             kept = now.kept;
             left = inr (
               record { has_prev = has; in_order = order; keeps = now.keeps },
@@ -348,12 +345,12 @@ module _ {K N I L C D : Type 0} (ord : OrdMembers C) (id_eq : K → K → Bool) 
                 (λ e h. has_alike ord.eq mid new (Some e.log_id) points logs h) es all;
             in_order = order;
             may = both_true now.keeps (both_true now.order now.members);
-            allowed = both_true now.members (commit_allows ord id_eq same (new_of ord.eq old es) id old mid now true may);
+            allowed = both_true now.members (commit_allows ord id_eq same (entries_to_append ord.eq old es) id old mid now true may);
             log = rw logs now.log;
             kept = rw logs now.kept;
             nothing_new = λ none. logs ∙ now.nothing_new none;
             ends = rw logs now.ends;
-            memberships = commit_takes ord id_eq same (new_of ord.eq old es) id old mid now new after;
+            memberships = commit_takes ord id_eq same (entries_to_append ord.eq old es) id old mid now new after;
             accepted = commit_accepted ord.cmp id mid new after ∙ now.accepted;
             committed = rw committed at (commit_committed ord.cmp id mid new after);
             has_committed = λ lt. rw logs (rw (committed, lt) at logged);
@@ -406,7 +403,7 @@ pub conflict_refused : {K N I L C D : Type 0} (ord : OrdMembers C) (id_eq : K �
 conflict_refused ord id_eq same eqs prev es id old new at e conflict stays why =
     rw (stays, conflict.1) (record {
       reason = rw (← cut_is ord.cmp at prev old conflict.0) why;
-      kept = kept_itself ord id_eq same eqs prev es id old (replaced_since (full_log old.log_ids) (new_of ord.eq old es));
+      kept = kept_itself ord id_eq same eqs prev es id old (replaced_since (full_log old.log_ids) (entries_to_append ord.eq old es));
       left = inl (nothing_left ord id_eq same eqs prev es id old);
       rest = refl;
     })
@@ -522,14 +519,18 @@ module _ {K N I L C D : Type 0} (ord : OrdMembers C) (id_eq : K → K → Bool) 
       has_prev = h.has_prev;
       has_entries = h.has_entries;
       in_order = h.in_order;
-      may = rw (same_keeps (new_of ord.eq s es), same_last (new_of ord.eq s es), same_effective (new_of ord.eq s es)) at h.may;
-      allowed = rw (same_effective (new_of ord.eq s es)) at h.allowed;
+      may = rw (
+        same_keeps (entries_to_append ord.eq s es),
+        same_last (entries_to_append ord.eq s es),
+        same_effective (entries_to_append ord.eq s es),
+      ) at h.may;
+      allowed = rw (same_effective (entries_to_append ord.eq s es)) at h.allowed;
       log = h.log;
       kept = h.kept;
       nothing_new = h.nothing_new;
       ends = h.ends;
-      memberships = (h.memberships.0, rw (same_memberships (new_of ord.eq s es)) at h.memberships.1, h.memberships.2);
-      accepted = h.accepted ∙ same_accepted (new_of ord.eq s es);
+      memberships = (h.memberships.0, rw (same_memberships (entries_to_append ord.eq s es)) at h.memberships.1, h.memberships.2);
+      accepted = h.accepted ∙ same_accepted (entries_to_append ord.eq s es);
       committed = h.committed;
       has_committed = h.has_committed;
     }
@@ -542,30 +543,34 @@ module _ {K N I L C D : Type 0} (ord : OrdMembers C) (id_eq : K → K → Bool) 
           record {
             has_prev = had.has_prev;
             in_order = had.in_order;
-            keeps = sym (same_keeps (new_of ord.eq s es)) ∙ had.keeps;
+            keeps = sym (same_keeps (entries_to_append ord.eq s es)) ∙ had.keeps;
           },
           by h.1,
         )
       where
-        by : IsCutBefore ord.cmp (new_of ord.eq (voted s vote) es) (voted s vote) new
-            ⊎ HasReplaced ord id_eq same (new_of ord.eq (voted s vote) es) (voted s vote) new
-            → IsCutBefore ord.cmp (new_of ord.eq s es) s new ⊎ HasReplaced ord id_eq same (new_of ord.eq s es) s new
+        by : IsCutBefore ord.cmp (entries_to_append ord.eq (voted s vote) es) (voted s vote) new
+            ⊎ HasReplaced ord id_eq same (entries_to_append ord.eq (voted s vote) es) (voted s vote) new
+            → IsCutBefore ord.cmp (entries_to_append ord.eq s es) s new ⊎ HasReplaced ord id_eq same (entries_to_append ord.eq s es) s new
         by (inl c) = inl (record {
-          log = c.log ∙ same_log_before (new_of ord.eq s es);
-          memberships = c.memberships ∙ same_memberships (new_of ord.eq s es);
-          accepted = c.accepted ∙ same_accepted (new_of ord.eq s es);
+          log = c.log ∙ same_log_before (entries_to_append ord.eq s es);
+          memberships = c.memberships ∙ same_memberships (entries_to_append ord.eq s es);
+          accepted = c.accepted ∙ same_accepted (entries_to_append ord.eq s es);
         })
         by (inr r) = inr (record {
           log = r.log;
-          memberships = rw (same_memberships (new_of ord.eq s es)) at r.memberships;
-          accepted = r.accepted ∙ same_accepted (new_of ord.eq s es);
+          memberships = rw (same_memberships (entries_to_append ord.eq s es)) at r.memberships;
+          accepted = r.accepted ∙ same_accepted (entries_to_append ord.eq s es);
         })
 
     -- nor do the tests of a request
     same_tests : (has : Bool) (id : Option (LogIdOf C))
         → append_tests has ord.eq ord.cmp prev es id (voted s vote) ≡ append_tests has ord.eq ord.cmp prev es id s
     same_tests true id =
-        rw (same_keeps (new_of ord.eq s es), same_last (new_of ord.eq s es), same_effective (new_of ord.eq s es)) refl
+        rw (
+          same_keeps (entries_to_append ord.eq s es),
+          same_last (entries_to_append ord.eq s es),
+          same_effective (entries_to_append ord.eq s es),
+        ) refl
     same_tests false id = by prev
       where
         by : (o : Option (LogIdOf C)) → (let t : TakeTests = record tests_hold { keeps = may_cut_at ord.cmp o (voted s vote) } in t)
@@ -578,7 +583,7 @@ module _ {K N I L C D : Type 0} (ord : OrdMembers C) (id_eq : K → K → Bool) 
   heard_refuses request e h = record {
     reason = subst (λ (t : TakeTests). RefusedUnless t e)
         (same_tests request.prev request.entries.items (purged_or_logged ord.eq s request.prev)
-        (least ord.cmp request.committed (last_of request.prev request.entries.items))) h.reason;
+        (lesser_id ord.cmp request.committed (last_id_of_request request.prev request.entries.items))) h.reason;
     kept = h.kept;
     left = heard_left request.prev request.entries.items h.left;
     rest = h.rest;
@@ -588,8 +593,8 @@ module _ {K N I L C D : Type 0} (ord : OrdMembers C) (id_eq : K → K → Bool) 
       → Answers ord id_eq same request o (voted s vote) new → Answers ord id_eq same request o s new
   heard_answers request (Matches upto) not h = (
     h.0,
-    heard_took request.prev request.entries.items (least ord.cmp request.committed
-        (last_of request.prev request.entries.items)) h.1,
+    heard_took request.prev request.entries.items (lesser_id ord.cmp request.committed
+        (last_id_of_request request.prev request.entries.items)) h.1,
   )
   heard_answers request (Conflict at last) not h = (heard_cut ord s new vote at request.prev h.0, h.1)
   heard_answers request (HigherVote v) not h = absurd not

@@ -36,7 +36,7 @@ use Rattle.raft_base.specs.LogIdLawful.{optional-log_id_cmp-total}
 use Rattle.raft_base.specs.declared.log_id.LogIdOf.{LogIdOf}
 use Rattle.raft_base.specs.declared.utime.UTime.{UTime}
 use Rattle.raft_base.specs.declared.vote.VoteIn.{VoteIn}
-use Rattle.raft_handlers.proofs.EntryLemmas.{same_log_itself}
+use Rattle.raft_handlers.proofs.lemmas.EntryLemmas.{same_log_itself}
 use Rattle.raft_handlers.specs.Append.{has_entry}
 use Rattle.raft_handlers.specs.Campaign.{same_vote}
 use Rattle.raft_handlers.specs.Entries.{entry_ids, has_id}
@@ -46,13 +46,12 @@ use Rattle.raft_handlers.specs.Written.{
   no_changes,
   nothing_installed,
   risen_to,
-  Truncates,
   Writes,
-  WritesEntries,
   WritesInstall,
   WritesLog,
   WritesSnapshot,
 }
+use Rattle.raft_handlers.specs.Inner.Log.{Truncates, WritesEntries}
 use Rattle.raft_handlers.specs.declared.changes.Changes.{Changes}
 use Rattle.raft_handlers.specs.declared.changes.SnapshotChanges.{SnapshotChanges}
 use Rattle.raft_handlers.specs.declared.message.Outcome.{Outcome}

@@ -13,7 +13,7 @@ use Rattle.raft_progress.specs.declared.entry.ProgressEntryOf.{ProgressEntryOf}
 use Rattle.raft_progress.specs.declared.inflight.InflightError.{InflightError}
 use Rattle.raft_progress.specs.declared.inflight.InflightError.TheVariants.{IndexTooLarge, MatchingRegress}
 use Rattle.raft_progress.specs.declared.inflight.InflightOf.{InflightOf}
-use Rattle.raft_handlers.specs.Append.{has_all, last_of}
+use Rattle.raft_handlers.specs.Append.{has_all, last_id_of_request}
 use Rattle.raft_handlers.specs.Leadership.{Leadership, entry_of}
 use Rattle.raft_handlers.specs.Responses.{TakesResponse, after_response, answers, as_refused}
 use Rattle.raft_handlers.specs.declared.error.ResponseError.{ResponseError}
@@ -91,7 +91,7 @@ module _ {K N L C : Type 0} (eq : K → K → Bool) (laws : IsEquivalence eq) (l
 -- a log that has a log id and each of some entries has the last log id of them
 pub has_last : {K N I L C D : Type 0} (eq : C → C → Bool) (s : RaftStateIn K N I L C) (prev : Option (LogIdOf C))
     (es : List (EntryOf C K N D)) → purged_or_logged eq s prev ≡ true → has_all eq s es ≡ true
-    → purged_or_logged eq s (last_of prev es) ≡ true
+    → purged_or_logged eq s (last_id_of_request prev es) ≡ true
 has_last eq s prev [] there all = there
 has_last eq s prev (e ∷ []) there all = by (purged_or_logged eq s (Some e.log_id)) all
   where

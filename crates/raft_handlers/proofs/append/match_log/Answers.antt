@@ -1,5 +1,5 @@
 use Rattle.std.proofs.Common.{◌≡◌, [], true, ap, refl, rules, sym, ◌∙◌}
-use Rattle.raft_handlers.specs.Append.{last_of, least}
+use Rattle.raft_handlers.specs.Append.{last_id_of_request, lesser_id}
 use Rattle.raft_handlers.proofs.lemmas.HeartbeatLemmas.{heartbeat_took, no_entries, none_to_commit}
 use Rattle.raft_handlers.proofs.lemmas.TakeLemmas.{conflict_refused}
 use Rattle.raft_handlers.proofs.lemmas.WrittenLemmas.{conflict_written, nothing_matches}
@@ -16,7 +16,7 @@ returns-in_err-truncated_from-clause-refuses g c =
     } in
     let r = c.args.request.now in
     let refuses = conflict_refused ord g.NID.PartialEq.eq g.N.PartialEq.eq g.met.C.Eq.laws r.prev r.entries.items
-    (least g.C.Ord.cmp r.committed (last_of r.prev r.entries.items)) c.args.state.now c.cut.new.state c.in-Some.at
+    (lesser_id g.C.Ord.cmp r.committed (last_id_of_request r.prev r.entries.items)) c.args.state.now c.cut.new.state c.in-Some.at
     c.in_err-truncated_from.field-0.0
     c.in-Some.ensures.conflict c.in_err-truncated_from.ensures.err c.in_err-truncated_from.ensures.refused in
     search (rules, refuses)
@@ -35,10 +35,10 @@ returns-then-same_optional_log_ids-clause-answers g c =
     no_entries r.entries.items (rw c.as_slice.ensures.value at (sym c.is_empty-has_none.ensures ∙ c.if-has_none.true)) in
     let has : purged_or_logged g.C.PartialEq.eq s r.prev ≡ true = search rules in
     let not = none_to_commit g.C.Ord.cmp g.met.C.Ord.total g.C.PartialEq.eq g.met.C.Ord.matches_eq r.committed
-    (last_of r.prev r.entries.items) s.committed (sym c.same_optional_log_ids.ensures ∙ c.if-same_optional_log_ids.true) in (
+    (last_id_of_request r.prev r.entries.items) s.committed (sym c.same_optional_log_ids.ensures ∙ c.if-same_optional_log_ids.true) in (
       rw none refl,
       heartbeat_took _ g.NID.PartialEq.eq g.N.PartialEq.eq g.met.C.Eq.laws r.prev r.entries.items
-          (least g.C.Ord.cmp r.committed (last_of r.prev r.entries.items)) s none has not,
+          (lesser_id g.C.Ord.cmp r.committed (last_id_of_request r.prev r.entries.items)) s none has not,
     )
 
 pub returns-then-same_optional_log_ids-clause-writes : goal.returns-then-same_optional_log_ids-clause-writes

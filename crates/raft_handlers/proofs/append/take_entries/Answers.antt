@@ -1,5 +1,5 @@
 use Rattle.std.proofs.Common.{ap, refl, rules, sym, ◌∙◌}
-use Rattle.raft_handlers.proofs.EntryLemmas.{slice_rest}
+use Rattle.raft_handlers.proofs.lemmas.EntryLemmas.{slice_rest}
 use Rattle.raft_handlers.proofs.lemmas.RunLemmas.{plain_drop}
 use Rattle.raft_handlers.proofs.lemmas.TakeLemmas.{commit_refused, commit_took, disorder_refused, new_refused, take_rest}
 use Rattle.raft_handlers.proofs.lemmas.WrittenLemmas.{entries_written}

@@ -1,6 +1,6 @@
 use Rattle.std.proofs.Common.{◌≡◌, ◌∙◌, Some, refl, rules, sym}
 use Rattle.std.specs.Prelude.{slice_get}
-use Rattle.raft_handlers.proofs.EntryLemmas.{no_first}
+use Rattle.raft_handlers.proofs.lemmas.EntryLemmas.{no_first}
 use Rattle.raft_handlers.proofs.lemmas.CutLemmas.{
   append_rest,
   cut_refused,

@@ -1,8 +1,8 @@
 use Rattle.std.proofs.Common.{◌≡◌, Some, false, refl, sym, ◌∙◌}
 use Rattle.std.specs.Prelude.{slice_get}
-use Rattle.raft_handlers.proofs.EntryLemmas.{no_first, slice_rest}
+use Rattle.raft_handlers.proofs.lemmas.EntryLemmas.{no_first, slice_rest}
 use Rattle.raft_handlers.proofs.lemmas.RunLemmas.{none_shown, plain_from}
-use Rattle.raft_handlers.specs.Entries.{stores_membership}
+use Rattle.raft_handlers.specs.Inner.Log.{stores_membership}
 use Rattle.raft_handlers.proofs.log.are_plain.Goals as goal
 
 pub returns-in_default : goal.returns-in_default

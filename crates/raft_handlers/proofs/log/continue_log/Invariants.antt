@@ -1,5 +1,5 @@
 use Rattle.std.proofs.Common.{◌≡◌, ◌+◌, drop}
-use Rattle.raft_handlers.specs.Entries.{continue_from}
+use Rattle.raft_handlers.specs.Inner.Log.{continue_from}
 use Rattle.raft_handlers.proofs.log.continue_log.Given as goal
 
 abbrev pub invariant-loop-entry : goal.invariant-loop-entry

@@ -1,6 +1,6 @@
 use Rattle.std.proofs.Common.{◌≡◌, drop, ap, rules, sym}
-use Rattle.raft_handlers.proofs.EntryLemmas.{slice_rest}
-use Rattle.raft_handlers.proofs.RequestLemmas.{unaccepted_sound}
+use Rattle.raft_handlers.proofs.lemmas.EntryLemmas.{slice_rest}
+use Rattle.raft_handlers.proofs.lemmas.UnacceptedLemmas.{unaccepted_sound}
 use Rattle.raft_handlers.proofs.lemmas.RestartLemmas.{restart_not_committed, restart_refused, restores}
 use Rattle.raft_handlers.specs.Restart.{entries_past}
 use Rattle.raft_progress.specs.progress.Comparisons.{OrdMembers}

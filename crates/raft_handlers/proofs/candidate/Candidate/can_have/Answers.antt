@@ -1,5 +1,5 @@
 use Rattle.std.proofs.Common.{ap, length, ltb, ◌/◌, ◌∙◌}
-use Rattle.raft_handlers.specs.Campaign.{may_have_vote}
+use Rattle.raft_handlers.specs.Campaign.{can_have_vote_of}
 use Rattle.raft_handlers.proofs.lemmas.TallyLemmas.{counted_majority}
 use Rattle.raft_handlers.proofs.candidate.Candidate.can_have.Goals as goal
 
@@ -10,4 +10,4 @@ returns g c =
     ap (λ n. ltb (n / 2) c.count_open.result) c.len.ensures.len
     ∙ ap (λ n. ltb (length config.keys / 2) n) c.count_open.ensures
     ∙ counted_majority eq g.NID.Ord.cmp g.met.NID.Ord.matches_eq config c.len.ensures.ordered
-    (may_have_vote eq c.args.self.now c.args.refused.now)
+    (can_have_vote_of eq c.args.self.now c.args.refused.now)

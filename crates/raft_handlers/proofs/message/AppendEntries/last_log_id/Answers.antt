@@ -1,6 +1,6 @@
 use Rattle.std.proofs.Common.{◌≡◌, ◌-◌, Some, length, sym}
 use Rattle.std.specs.Prelude.{slice_get}
-use Rattle.raft_handlers.proofs.EntryLemmas.{last_of_entries}
+use Rattle.raft_handlers.proofs.lemmas.EntryLemmas.{last_of_entries}
 use Rattle.raft_handlers.proofs.message.AppendEntries.last_log_id.Goals as goal
 
 pub returns-in-Some : goal.returns-in-Some
