@@ -710,6 +710,7 @@ module _ {T ID D : Type 0} (k : Tests T ID D (Option D)) (config_of : D → Opti
           placed = keeps.placed;
           bounded = keeps.bounded;
           known = known_still k.counting es (commits_in p) keeps.known;
+          counting = keeps.counting;
           unused = keeps.unused;
           seen = record {
             allowed = same_allowed es new ∙ keeps.seen.allowed;
