@@ -906,7 +906,9 @@ module _ {T ID D : Type 0} (k : Tests T ID D (Option D)) (exact : AreExact k) wh
 
       earlier : (p : List (Entry T D))
           → is_known_by k (is_earlier k t) p es ≡ is_known_by k (is_shorter k t 0) p es
-      earlier p = λ q. is_known_by k (λ u m. none (nat_lt (k.rank u) (k.rank t)) (nat_eq (k.rank u) (k.rank t)) (nat_lt m 0) (le-ltb m 0 (omega arith)) q) p es
+      earlier p =
+          λ q. is_known_by k
+          (λ u m. none (nat_lt (k.rank u) (k.rank t)) (nat_eq (k.rank u) (k.rank t)) (nat_lt m 0) (le-ltb m 0 (omega arith)) q) p es
 
   -- whether a leader is elected follows from its votes and the commits that are kept
   pub tallied_leader : (es : List (TraceEvent T ID D)) (t : T) (c : ID) (p : Parts T ID D) (j : ℕ) (l : Leader T ID)
@@ -1486,8 +1488,8 @@ module _ {T ID D : Type 0} (k : Tests T ID D (Option D)) (exact : AreExact k) wh
       → SeesKnownBy k k.counting (Committed c t n m ∷ es) (map (commit_in p.logs) commits)
       → (first_broken k (Committed c t n m) es ≡ None)
       × Keeps k (Committed c t n m ∷ es) (with_commits (with_committed (with_leader p j lnew) most) commits)
-  commit_done es t c n m p j l l1 l2 l3 lnew ids config quorum at_j is is1 is2 is3 keeps known follows tests free members is_config counted enough
-      rest most is_most commits have_commits sees_commits =
+  commit_done es t c n m p j l l1 l2 l3 lnew ids config quorum at_j is is1 is2 is3 keeps known follows tests free members
+      is_config counted enough rest most is_most commits have_commits sees_commits =
       let tested : first_broken k (Committed c t n m) es ≡ unless quorum NoQuorum None =
       commit_tested es t c n m p j l l1 l2 ids config quorum at_j is is1 is2 keeps known follows tests free members is_config counted in
       let within : j < length p.leaders = within_of (is_leader t c) p.leaders j l at_j.place in
