@@ -77,8 +77,9 @@ module _ {T ID D : Type 0} (k : Tests T ID D (Option D)) where
       (AreWithout k.same_content p.logs d → IsUnused k.same_content d es)
       × (IsUnused k.same_content d es → AreWithout k.same_content p.logs d)
 
-  -- the same of the parts of a checker, in which each log is kept once
+  -- the same of the parts of a checker, in which each log is kept once, and whose configs count in this way
   pub record Keeps (es : List (TraceEvent T ID D)) (p : Parts T ID D) : Type 0 where
+    pub counting : p.counting ≡ k.counting
     pub are_logs : AreLogs (λ d. is_some (k.config_of d)) p.logs
     pub have_logs : HaveLogs p
     pub placed : ArePlaced k.rank p.places p.leaders
@@ -134,6 +135,7 @@ counting_of c = c.counting
 -- what a checker keeps
 abbrev pub kept_by : {T ID D C : Type 0} → Checker T ID D C → Parts T ID D
 kept_by c = record {
+  counting = c.counting;
   logs = c.logs;
   servers = c.servers.items;
   leaders = c.leaders.items;

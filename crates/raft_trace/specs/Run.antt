@@ -3,8 +3,7 @@ use Rattle.std.specs.Prelude.{◌≡◌, ◌⊎◌, ℕ, true, List, [], ◌∷�
 use Rattle.serde_json.specs.Data.{Data}
 use Rattle.serde_json.specs.Read.{read}
 use Rattle.raft_safety.specs.Trace.{AreExact, IsSafeTrace, Tests, TraceEvent, are_allowed}
-use Rattle.raft_safety.specs.Checker.{Keeps, configs_of, counting_of, kept_by}
-use Rattle.raft_safety.specs.declared.checker.counting.ConfigsCount.TheVariants.{WhenAppended}
+use Rattle.raft_safety.specs.Checker.{Keeps, configs_of, kept_by}
 use Rattle.raft_safety.specs.declared.memberships.Memberships.{Memberships}
 use Rattle.raft_trace.specs.Fields.{HasConfigs, IsFirst, IsNamed}
 use Rattle.raft_trace.specs.Input.{lines}
@@ -61,7 +60,6 @@ module _ (tests : Memberships ℕ ℕ → Tests ℕ ℕ ℕ (Option ℕ)) where
   -- a judge has taken these lines, the latest first
   pub record HasTaken (taken : List (List ℕ)) (judge : Judge) : Type 0 where
     pub exact : AreExact (tests (configs_of judge.checker))
-    pub counting : counting_of judge.checker ≡ WhenAppended
     pub trace : List (TraceEvent ℕ ℕ ℕ)
     pub is_trace : IsTraceOf judge.first taken trace
     pub keeps : Keeps (tests (configs_of judge.checker)) trace (kept_by judge.checker)
@@ -70,11 +68,9 @@ module _ (tests : Memberships ℕ ℕ → Tests ℕ ℕ ℕ (Option ℕ)) where
   abbrev pub IsStarted : List ℕ → Judge → Type 0
   IsStarted line judge = SaysStart line (configs_of judge.checker) judge.first × HasTaken [] judge
 
-  -- a judge goes on with the same members, which count as before, and the same first index
+  -- a judge goes on with the same members and the same first index
   abbrev pub GoesOn : Judge → Judge → Type 0
-  GoesOn old new =
-      (configs_of new.checker ≡ configs_of old.checker) × (new.first ≡ old.first)
-      × (counting_of new.checker ≡ counting_of old.checker)
+  GoesOn old new = (configs_of new.checker ≡ configs_of old.checker) × (new.first ≡ old.first)
 
   -- a judge takes one line more
   abbrev pub Takes : List ℕ → Judge → Judge → Type 0
@@ -86,8 +82,7 @@ module _ (tests : Memberships ℕ ℕ → Tests ℕ ℕ ℕ (Option ℕ)) where
   abbrev pub TakesEvent : TraceEvent ℕ ℕ ℕ → Judge → Judge → Type 0
   TakesEvent e old new =
       GoesOn old new
-      × (AreExact (tests (configs_of old.checker)) → counting_of old.checker ≡ WhenAppended
-      → (es : List (TraceEvent ℕ ℕ ℕ))
+      × (AreExact (tests (configs_of old.checker)) → (es : List (TraceEvent ℕ ℕ ℕ))
       → Keeps (tests (configs_of old.checker)) es (kept_by old.checker)
       → (after : List (TraceEvent ℕ ℕ ℕ)) × Adds e es after
       × Keeps (tests (configs_of old.checker)) after (kept_by new.checker))

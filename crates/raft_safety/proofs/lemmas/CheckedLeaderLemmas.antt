@@ -430,7 +430,8 @@ module _ {T ID D : Type 0} (k : Tests T ID D (Option D)) (exact : AreExact k) wh
     voted = λ v. vote_of_other (k.same_id c v) t u c d (events_in k es v) e;
     acked = λ v n. vote_no_ack (k.same_id c v) t u c d n (events_in k es v);
     committed = refl;
-    elected = elected_same es (Campaigned c t ∷ es) u d (rw e refl) (λ v. vote_of_other (k.same_id c v) t u c d (events_in k es v) e) (λ p. refl);
+    elected = elected_same es (Campaigned c t ∷ es) u d (rw e refl)
+        (λ v. vote_of_other (k.same_id c v) t u c d (events_in k es v) e) (λ p. refl);
   }
 
   pub grant_to_other : (es : List (TraceEvent T ID D)) (s : ID) (t u : T) (c d : ID)
@@ -442,7 +443,7 @@ module _ {T ID D : Type 0} (k : Tests T ID D (Option D)) (exact : AreExact k) wh
     voted = λ v. vote_in_other (k.same_id s v) t u c d (events_in k es v) e;
     acked = λ v n. any_vote_no_ack (k.same_id s v) t u c d n (events_in k es v);
     committed = refl;
-    elected = elected_same es (Granted s t c ∷ es) u d (refl) (λ v. vote_in_other (k.same_id s v) t u c d (events_in k es v) e) (λ p. refl);
+    elected = elected_same es (Granted s t c ∷ es) u d refl (λ v. vote_in_other (k.same_id s v) t u c d (events_in k es v) e) (λ p. refl);
   }
 
   pub late_vote_same : (es : List (TraceEvent T ID D)) (s : ID) (t u : T) (c d : ID)
@@ -454,7 +455,7 @@ module _ {T ID D : Type 0} (k : Tests T ID D (Option D)) (exact : AreExact k) wh
     voted = λ v. no_vote v (k.same_id s v) refl;
     acked = λ v n. any_vote_no_ack (k.same_id s v) t u c d n (events_in k es v);
     committed = refl;
-    elected = elected_same es (Granted s t c ∷ es) u d (refl) (λ v. no_vote v (k.same_id s v) refl) (λ p. refl);
+    elected = elected_same es (Granted s t c ∷ es) u d refl (λ v. no_vote v (k.same_id s v) refl) (λ p. refl);
   }
     where
       no_vote : (v : ID) (b : Bool) → k.same_id s v ≡ b
@@ -474,7 +475,8 @@ module _ {T ID D : Type 0} (k : Tests T ID D (Option D)) (exact : AreExact k) wh
     voted = λ v. append_no_vote (k.same_id s v) t u c d n sent (events_in k es v);
     acked = λ v m. append_no_ack (k.same_id s v) t u c d n m sent (events_in k es v);
     committed = refl;
-    elected = elected_same es (Appended s t c n sent ∷ es) u d (refl) (λ v. append_no_vote (k.same_id s v) t u c d n sent (events_in k es v)) (λ p. refl);
+    elected = elected_same es (Appended s t c n sent ∷ es) u d refl
+        (λ v. append_no_vote (k.same_id s v) t u c d n sent (events_in k es v)) (λ p. refl);
   }
 
   pub ack_to_other : (es : List (TraceEvent T ID D)) (s : ID) (t u : T) (c d : ID) (n : ℕ)
@@ -486,7 +488,7 @@ module _ {T ID D : Type 0} (k : Tests T ID D (Option D)) (exact : AreExact k) wh
     voted = λ v. ack_no_vote (k.same_id s v) t u c d n (events_in k es v);
     acked = λ v m. ack_of_other (k.same_id s v) t u c d n m (events_in k es v) e;
     committed = refl;
-    elected = elected_same es (Acked s t c n ∷ es) u d (refl) (λ v. ack_no_vote (k.same_id s v) t u c d n (events_in k es v)) (λ p. refl);
+    elected = elected_same es (Acked s t c n ∷ es) u d refl (λ v. ack_no_vote (k.same_id s v) t u c d n (events_in k es v)) (λ p. refl);
   }
 
   pub restart_same : (es : List (TraceEvent T ID D)) (s : ID) (u : T) (d : ID) (n : ℕ)
@@ -498,7 +500,7 @@ module _ {T ID D : Type 0} (k : Tests T ID D (Option D)) (exact : AreExact k) wh
     voted = λ v. restart_no_vote (k.same_id s v) u d n (events_in k es v);
     acked = λ v m. restart_no_ack (k.same_id s v) u d n m (events_in k es v);
     committed = refl;
-    elected = elected_same es (Restarted s n ∷ es) u d (refl) (λ v. restart_no_vote (k.same_id s v) u d n (events_in k es v)) (λ p. refl);
+    elected = elected_same es (Restarted s n ∷ es) u d refl (λ v. restart_no_vote (k.same_id s v) u d n (events_in k es v)) (λ p. refl);
   }
 
   pub write_of_other : (es : List (TraceEvent T ID D)) (t u : T) (c d : ID) (x : Entry T D)
@@ -510,7 +512,7 @@ module _ {T ID D : Type 0} (k : Tests T ID D (Option D)) (exact : AreExact k) wh
     voted = λ v. refl;
     acked = λ v m. refl;
     committed = refl;
-    elected = elected_same es (Wrote c t x ∷ es) u d (refl) (λ v. refl) (λ p. refl);
+    elected = elected_same es (Wrote c t x ∷ es) u d refl (λ v. refl) (λ p. refl);
   }
 
   pub commit_of_other : (es : List (TraceEvent T ID D)) (t u : T) (c d : ID) (n m : ℕ)
@@ -534,5 +536,5 @@ module _ {T ID D : Type 0} (k : Tests T ID D (Option D)) (exact : AreExact k) wh
     voted = λ v. refl;
     acked = λ v m. refl;
     committed = refl;
-    elected = elected_same es (Applied s t c n ∷ es) u d (refl) (λ v. refl) (λ p. refl);
+    elected = elected_same es (Applied s t c n ∷ es) u d refl (λ v. refl) (λ p. refl);
   }

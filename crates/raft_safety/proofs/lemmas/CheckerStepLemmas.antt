@@ -266,27 +266,67 @@ module _ {D : Type 0} (holds : D → Bool) where
 module _ {T N D : Type 0} where
   -- other servers, another server or another leader
   abbrev pub with_servers : Parts T N D → List (Server N) → Parts T N D
-  with_servers p new = record { logs = p.logs; servers = new; leaders = p.leaders; places = p.places; committed = p.committed; commits = p.commits }
+  with_servers p new = record {
+    counting = p.counting;
+    logs = p.logs;
+    servers = new;
+    leaders = p.leaders;
+    places = p.places;
+    committed = p.committed;
+    commits = p.commits;
+  }
 
   abbrev pub with_server : Parts T N D → ℕ → Server N → Parts T N D
   with_server p i s = with_servers p (set p.servers i s)
 
   abbrev pub with_leaders : Parts T N D → List (Leader T N) → Parts T N D
-  with_leaders p new = record { logs = p.logs; servers = p.servers; leaders = new; places = p.places; committed = p.committed; commits = p.commits }
+  with_leaders p new = record {
+    counting = p.counting;
+    logs = p.logs;
+    servers = p.servers;
+    leaders = new;
+    places = p.places;
+    committed = p.committed;
+    commits = p.commits;
+  }
 
   abbrev pub with_leader : Parts T N D → ℕ → Leader T N → Parts T N D
   with_leader p j l = with_leaders p (set p.leaders j l)
 
   -- another number of entries such that no leader has committed more
   abbrev pub with_committed : Parts T N D → ℕ → Parts T N D
-  with_committed p n = record { logs = p.logs; servers = p.servers; leaders = p.leaders; places = p.places; committed = n; commits = p.commits }
+  with_committed p n = record {
+    counting = p.counting;
+    logs = p.logs;
+    servers = p.servers;
+    leaders = p.leaders;
+    places = p.places;
+    committed = n;
+    commits = p.commits;
+  }
 
   -- other commits by which configs are known
   abbrev pub with_commits : Parts T N D → List Commit → Parts T N D
-  with_commits p new = record { logs = p.logs; servers = p.servers; leaders = p.leaders; places = p.places; committed = p.committed; commits = new }
+  with_commits p new = record {
+    counting = p.counting;
+    logs = p.logs;
+    servers = p.servers;
+    leaders = p.leaders;
+    places = p.places;
+    committed = p.committed;
+    commits = new;
+  }
 
   abbrev pub with_places : Parts T N D → List (ℕ × (ℕ × ℕ)) → Parts T N D
-  with_places p new = record { logs = p.logs; servers = p.servers; leaders = p.leaders; places = new; committed = p.committed; commits = p.commits }
+  with_places p new = record {
+    counting = p.counting;
+    logs = p.logs;
+    servers = p.servers;
+    leaders = p.leaders;
+    places = new;
+    committed = p.committed;
+    commits = p.commits;
+  }
 
   have_server : (p : Parts T N D) (i : ℕ) (new : Server N) → HaveLogs p → i < length p.servers
       → new.log < length p.logs.logs → HaveLogs (with_server p i new)
@@ -368,7 +408,15 @@ module _ {T ID D : Type 0} (k : Tests T ID D (Option D)) where
   no_entry d (suc i) = tt
 
   pub starts : k.intersect k.initial k.initial ≡ true
-      → Keeps k [] (record { logs = no_logs; servers = []; leaders = []; places = []; committed = 0; commits = [] })
+      → Keeps k [] (record {
+        counting = k.counting;
+        logs = no_logs;
+        servers = [];
+        leaders = [];
+        places = [];
+        committed = 0;
+        commits = [];
+      })
   starts intersect = record {
     are_logs = no_logs_are (λ d. is_some (k.config_of d)) T;
     have_logs = record {
@@ -379,6 +427,7 @@ module _ {T ID D : Type 0} (k : Tests T ID D (Option D)) where
     placed = λ i l h e. absurd (omega (arith, h));
     bounded = λ i n l h e q. absurd (omega (arith, h));
     known = nothing k.counting;
+    counting = refl;
     unused = λ d. (λ without. tt, λ u i h. no_entry d i);
     seen = record {
       allowed = intersect;
@@ -478,6 +527,7 @@ module _ {T ID D : Type 0} (k : Tests T ID D (Option D)) (exact : AreExact k) wh
     placed = keeps.placed;
     bounded = keeps.bounded;
     known = keeps.known;
+    counting = keeps.counting;
     unused = keeps.unused;
     seen = see_place k exact es id (servers_in p) (map (server_in p.logs) new) i (leaders_in p)
         (at_place p id new i keeps.are_logs.empty at) keeps.seen;
@@ -543,6 +593,7 @@ module _ {T ID D : Type 0} (k : Tests T ID D (Option D)) (exact : AreExact k) wh
     have_logs = have_server p i new keeps.have_logs at within;
     placed = keeps.placed;
     bounded = keeps.bounded;
+    counting = keeps.counting;
     unused = unused;
     seen = subst (λ (l : List (ServerState T ID D)). HasSeen k es l (leaders_in p))
         (sym (map-set (server_in p.logs) p.servers i new)) seen;
@@ -561,6 +612,7 @@ module _ {T ID D : Type 0} (k : Tests T ID D (Option D)) (exact : AreExact k) wh
         have_logs = record { of_servers = have.of_servers; of_leaders = have.of_leaders; of_commits = have.of_commits };
         placed = placed_set k.rank p.places p.leaders j l new at is same keeps.placed;
         bounded = bounded;
+        counting = keeps.counting;
         unused = unused;
         seen = subst (λ (l : List (LeaderState T ID D)). HasSeen k es (servers_in p) l)
             (sym (map-set (leader_in p.logs) p.leaders j new)) seen;
@@ -583,6 +635,7 @@ module _ {T ID D : Type 0} (k : Tests T ID D (Option D)) (exact : AreExact k) wh
         have_logs = record { of_servers = have.of_servers; of_leaders = have.of_leaders; of_commits = have_commits };
         placed = placed_set k.rank p.places p.leaders j l new at is same keeps.placed;
         bounded = bounded;
+        counting = keeps.counting;
         unused = unused;
         seen = subst (λ (l : List (LeaderState T ID D)). HasSeen k es (servers_in p) l)
             (sym (map-set (leader_in p.logs) p.leaders j new)) seen;
@@ -853,7 +906,9 @@ module _ {T ID D : Type 0} (k : Tests T ID D (Option D)) (exact : AreExact k) wh
 
       earlier : (p : List (Entry T D))
           → is_known_by k (is_earlier k t) p es ≡ is_known_by k (is_shorter k t 0) p es
-      earlier p = λ q. is_known_by k (λ u m. none (nat_lt (k.rank u) (k.rank t)) (nat_eq (k.rank u) (k.rank t)) (nat_lt m 0) (le-ltb m 0 (omega arith)) q) p es
+      earlier p =
+          λ q. is_known_by k
+          (λ u m. none (nat_lt (k.rank u) (k.rank t)) (nat_eq (k.rank u) (k.rank t)) (nat_lt m 0) (le-ltb m 0 (omega arith)) q) p es
 
   -- whether a leader is elected follows from its votes and the commits that are kept
   pub tallied_leader : (es : List (TraceEvent T ID D)) (t : T) (c : ID) (p : Parts T ID D) (j : ℕ) (l : Leader T ID)
@@ -930,6 +985,7 @@ module _ {T ID D : Type 0} (k : Tests T ID D (Option D)) (exact : AreExact k) wh
     known = known;
     placed = placed_set k.rank p.places p.leaders j l lnew at_j is same keeps.placed;
     bounded = bounded_same p.committed p.leaders j l lnew at_j is commits keeps.bounded;
+    counting = keeps.counting;
     unused = unused;
     have_logs = have_leader (with_server p i new) j lnew (have_server p i new keeps.have_logs at within) at_j within_j;
     seen = subst (λ (x : List (LeaderState T ID D)). HasSeen k es (servers_in (with_server p i new)) x)
@@ -1204,6 +1260,7 @@ module _ {T ID D : Type 0} (k : Tests T ID D (Option D)) (exact : AreExact k) wh
           known = quiet es (Campaigned c t ∷ es) (commits_in p) (λ u a x. refl) keeps.known;
           placed = placed_more k.rank p.places places p.leaders lnew (k.rank t) (ap k.rank same.term) here others keeps.placed;
           bounded = bounded_more p.committed p.leaders lnew same.committed keeps.bounded;
+          counting = keeps.counting;
           unused = keeps.unused;
           seen = subst (λ (x : List (ServerState T ID D)). HasSeen k (Campaigned c t ∷ es) x (leader_in p.logs lnew ∷ leaders_in p))
               (sym (map-set (server_in p.logs) p.servers i new)) done.1;
@@ -1232,6 +1289,7 @@ module _ {T ID D : Type 0} (k : Tests T ID D (Option D)) (exact : AreExact k) wh
       → lnew ≡ record l { log = log }
       → (first_broken k (Wrote c t e) es ≡ None)
       × Keeps k (Wrote c t e ∷ es) (record {
+        counting = p.counting;
         logs = logs;
         servers = p.servers;
         leaders = set p.leaders j lnew;
@@ -1267,6 +1325,7 @@ module _ {T ID D : Type 0} (k : Tests T ID D (Option D)) (exact : AreExact k) wh
       let same_l : map (leader_in logs) p.leaders ≡ leaders_in p =
       same_leaders p.logs logs p.leaders (λ i x h is. child.kept x.log (keeps.have_logs.of_leaders i x h is)) in
       let grown : Parts T ID D = record {
+        counting = p.counting;
         logs = logs;
         servers = p.servers;
         leaders = p.leaders;
@@ -1293,6 +1352,7 @@ module _ {T ID D : Type 0} (k : Tests T ID D (Option D)) (exact : AreExact k) wh
           placed = placed_set k.rank p.places p.leaders j l lnew within_j is_l (ap (λ (x : Leader T ID). x.term) rest) keeps.placed;
           bounded = bounded_same p.committed p.leaders j l lnew within_j is_l (ap (λ (x : Leader T ID). x.committed) rest)
               keeps.bounded;
+          counting = keeps.counting;
           unused = λ d. (
             λ without. (
               (lack_second k.same_content d (log_at p.logs l1.log) (e ∷ [])
@@ -1428,8 +1488,8 @@ module _ {T ID D : Type 0} (k : Tests T ID D (Option D)) (exact : AreExact k) wh
       → SeesKnownBy k k.counting (Committed c t n m ∷ es) (map (commit_in p.logs) commits)
       → (first_broken k (Committed c t n m) es ≡ None)
       × Keeps k (Committed c t n m ∷ es) (with_commits (with_committed (with_leader p j lnew) most) commits)
-  commit_done es t c n m p j l l1 l2 l3 lnew ids config quorum at_j is is1 is2 is3 keeps known follows tests free members is_config counted enough
-      rest most is_most commits have_commits sees_commits =
+  commit_done es t c n m p j l l1 l2 l3 lnew ids config quorum at_j is is1 is2 is3 keeps known follows tests free members
+      is_config counted enough rest most is_most commits have_commits sees_commits =
       let tested : first_broken k (Committed c t n m) es ≡ unless quorum NoQuorum None =
       commit_tested es t c n m p j l l1 l2 ids config quorum at_j is is1 is2 keeps known follows tests free members is_config counted in
       let within : j < length p.leaders = within_of (is_leader t c) p.leaders j l at_j.place in
@@ -1538,6 +1598,7 @@ module _ {T ID D : Type 0} (k : Tests T ID D (Option D)) (exact : AreExact k) wh
           placed = keeps.placed;
           bounded = keeps.bounded;
           known = quiet es (Applied id t c n ∷ es) (commits_in p) (λ u a x. refl) keeps.known;
+          counting = keeps.counting;
           unused = keeps.unused;
           seen = done.1;
         },

@@ -710,6 +710,7 @@ module _ {T ID D : Type 0} (k : Tests T ID D (Option D)) (config_of : D → Opti
           placed = keeps.placed;
           bounded = keeps.bounded;
           known = known_still k.counting es (commits_in p) keeps.known;
+          counting = keeps.counting;
           unused = keeps.unused;
           seen = record {
             allowed = same_allowed es new ∙ keeps.seen.allowed;
@@ -739,7 +740,8 @@ held_still same d q [] x e = ap (λ b. if b then q else []) e
 held_still same d q (m ∷ held) x e = ap (λ r. if same m.0 x then m.1 else r) (held_still same d q held x e)
 
 -- what memberships are tested by: the terms, ids and contents, and the configs of a membership
-module _ {T ID D Q V : Type 0} (counting : ConfigsCount) (rank : T → ℕ) (same_term : T → T → Bool) (eq : ID → ID → Bool) (same : D → D → Bool)
+module _ {T ID D Q V : Type 0} (counting : ConfigsCount) (rank : T → ℕ) (same_term : T → T → Bool) (eq : ID → ID → Bool)
+    (same : D → D → Bool)
     (voters : Q → List ID) (items : V → List Q) where
   abbrev configs_in : List Q → List (D × V) → Option D → List Q
   configs_in initial held m = configs_of same initial (map (λ p. (p.0, items p.1)) held) m

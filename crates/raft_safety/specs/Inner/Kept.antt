@@ -4,13 +4,15 @@ use Rattle.std.specs.List.{position}
 use Rattle.raft_safety.specs.Inner.CheckerState.{ServerState, LeaderState}
 use Rattle.raft_safety.specs.Inner.Logs.{AllLogs, log_at}
 use Rattle.raft_safety.specs.Inner.Known.{CommitState, commit_in}
+use Rattle.raft_safety.specs.declared.checker.counting.ConfigsCount.{ConfigsCount}
 use Rattle.raft_safety.specs.declared.checker.known.Commit.{Commit}
 use Rattle.raft_safety.specs.declared.checker.server.Server.{Server}
 use Rattle.raft_safety.specs.declared.checker.leader.Leader.{Leader}
 
--- the logs, the servers and the leaders of a checker, the numbers of each rank's leaders, and a number
--- of entries such that no leader has committed more, and the commits by which configs are known
+-- when the configs of a checker count, its logs, servers and leaders, the numbers of each rank's leaders, a
+-- number of entries such that no leader has committed more, and the commits by which configs are known
 pub record Parts (T N D : Type 0) : Type 0 where
+  pub counting : ConfigsCount
   pub logs : AllLogs T D
   pub servers : List (Server N)
   pub leaders : List (Leader T N)

@@ -6,8 +6,8 @@ use Rattle.serde_json.specs.Data.{Data}
 use Rattle.serde_json.specs.Read.{read}
 use Rattle.raft_safety.specs.Trace.{AreExact, Tests, TracesAreExecutions, TraceEvent, are_allowed, are_allowed_by}
 use Rattle.raft_safety.specs.Counted.{tests_by}
-use Rattle.raft_safety.specs.Checker.{Keeps as KeepsEvents, configs_of, counting_of, kept_by}
 use Rattle.raft_safety.specs.declared.checker.counting.ConfigsCount.TheVariants.{WhenAppended}
+use Rattle.raft_safety.specs.Checker.{Keeps as KeepsEvents, configs_of, kept_by}
 use Rattle.raft_safety.specs.declared.memberships.Memberships.{Memberships}
 use Rattle.raft_trace.specs.Input.{TakesLine, lines}
 use Rattle.raft_trace.specs.Line.{Says}
@@ -29,13 +29,12 @@ use Rattle.raft_trace.specs.declared.judge.Judge.{Judge}
 module _ (tests : Memberships ℕ ℕ → Tests ℕ ℕ ℕ (Option ℕ)) where
   -- a judge that is made has taken no line
   pub started : (line : List ℕ) (judge : Judge) (members : Memberships ℕ ℕ) → configs_of judge.checker ≡ members
-      → counting_of judge.checker ≡ WhenAppended → SaysStart line members judge.first → AreExact (tests members)
+      → SaysStart line members judge.first → AreExact (tests members)
       → KeepsEvents (tests members) [] (kept_by judge.checker) → IsStarted tests line judge
-  started line judge members is counting says exact keeps = (
+  started line judge members is says exact keeps = (
     subst (λ (m : Memberships ℕ ℕ). SaysStart line m judge.first) (sym is) says,
     record {
       exact = subst (λ (m : Memberships ℕ ℕ). AreExact (tests m)) (sym is) exact;
-      counting = counting;
       trace = [];
       is_trace = refl;
       keeps = subst (λ (m : Memberships ℕ ℕ). KeepsEvents (tests m) [] (kept_by judge.checker)) (sym is) keeps;
@@ -45,10 +44,9 @@ module _ (tests : Memberships ℕ ℕ → Tests ℕ ℕ ℕ (Option ℕ)) where
   -- an empty line is taken by doing nothing
   pub takes_empty : (line : List ℕ) (judge : Judge) → line ≡ [] → Takes tests line judge judge
   takes_empty line judge is = (
-    (refl, refl, refl),
+    (refl, refl),
     λ taken has. record {
       exact = has.exact;
-      counting = has.counting;
       trace = has.trace;
       is_trace = (has.trace, has.is_trace, inl (is, refl));
       keeps = has.keeps;
@@ -61,11 +59,10 @@ module _ (tests : Memberships ℕ ℕ → Tests ℕ ℕ ℕ (Option ℕ)) where
   takes_event line old new d e reads says taken_event = (
     taken_event.0,
     λ taken has.
-        let next = taken_event.1 has.exact has.counting has.trace has.keeps in
+        let next = taken_event.1 has.exact has.trace has.keeps in
         let same : tests (configs_of old.checker) ≡ tests (configs_of new.checker) = ap tests (sym taken_event.0.0) in
         record {
           exact = subst (λ (k : Tests ℕ ℕ ℕ (Option ℕ)). AreExact k) same has.exact;
-          counting = taken_event.0.2 ∙ has.counting;
           trace = next.0;
           is_trace = subst (λ (n : ℕ). IsTraceOf n (line ∷ taken) next.0) (sym taken_event.0.1)
               (has.trace, has.is_trace, inr (d, e, reads, says, next.1));
@@ -85,7 +82,7 @@ module _ (tests : Memberships ℕ ℕ → Tests ℕ ℕ ℕ (Option ℕ)) where
 
   pub passed_none : (rest : Option (List ℕ)) (judge : Judge) → HasPassed rest judge rest judge
   passed_none None judge = tt
-  passed_none (Some text) judge = ((refl, refl, refl), λ taken has. (taken, has, refl))
+  passed_none (Some text) judge = ((refl, refl), λ taken has. (taken, has, refl))
 
   pub passed_more : (text rest next : Option (List ℕ)) (old now new : Judge) (line : List ℕ) (is_last : Bool)
       → is_last ≡ false → HasPassed text old rest now → TakesLine rest line is_last next → Takes tests line now new
@@ -96,7 +93,7 @@ module _ (tests : Memberships ℕ ℕ → Tests ℕ ℕ ℕ (Option ℕ)) where
   passed_more (Some text) (Some rest) (Some next) old now new line is_last not_last passed reads takes =
       let cut : lines rest ≡ line ∷ lines next =
       subst (λ (b : Bool). TakesLine (Some rest) line b (Some next)) not_last reads in (
-        (takes.0.0 ∙ passed.0.0, takes.0.1 ∙ passed.0.1, takes.0.2 ∙ passed.0.2),
+        (takes.0.0 ∙ passed.0.0, takes.0.1 ∙ passed.0.1),
         λ taken has.
             let so_far = passed.1 taken has in (
               line ∷ so_far.0,
@@ -114,7 +111,7 @@ module _ (tests : Memberships ℕ ℕ → Tests ℕ ℕ ℕ (Option ℕ)) where
   passed_last (Some text) (Some rest) (Some next) old now new line is_last last passed reads takes =
       let cut : lines rest ≡ line ∷ [] =
       (subst (λ (b : Bool). TakesLine (Some rest) line b (Some next)) last reads).0 in (
-        (takes.0.0 ∙ passed.0.0, takes.0.1 ∙ passed.0.1, takes.0.2 ∙ passed.0.2),
+        (takes.0.0 ∙ passed.0.0, takes.0.1 ∙ passed.0.1),
         λ taken has.
             let so_far = passed.1 taken has in
             let all : and_lines taken (lines text) ≡ line ∷ so_far.0 = so_far.2 ∙ ap (and_lines so_far.0) cut in
@@ -159,7 +156,7 @@ module _ (tests : Memberships ℕ ℕ → Tests ℕ ℕ ℕ (Option ℕ)) where
   safe_alone ranks appended law (Some text) (Some next) line is_last judge last reads start =
       let cut : lines text ≡ line ∷ [] =
       (subst (λ (b : Bool). TakesLine (Some text) line b (Some next)) last reads).0 in
-      is_safe ranks appended law text line [] judge judge cut start.0 (refl, refl, refl) start.1
+      is_safe ranks appended law text line [] judge judge cut start.0 (refl, refl) start.1
 
   -- all lines after the first one are taken
   pub safe_all : ((m : Memberships ℕ ℕ) (t u : ℕ) → (tests m).rank t ≡ (tests m).rank u → t ≡ u)

@@ -1,4 +1,4 @@
-use Rattle.std.proofs.Common.{◌≡◌, ◌<◌, ◌∙◌, Err, length, take, inr, arith}
+use Rattle.std.proofs.Common.{◌≡◌, ◌<◌, ◌∙◌, Err, Ok, length, take, inr, arith}
 use Rattle.std.proofs.lemmas.List.{take_all}
 use Rattle.raft_safety.specs.Checker.{event_of, tests_when, trace_of}
 use Rattle.raft_safety.proofs.lemmas.CheckerCodeLemmas.{records_by, trace_more}
@@ -13,7 +13,10 @@ loop-i-preserved g c =
       counting = c.in-Ok-record.ensures.counting ∙ c.loop-i.invariant.counting;
       seen = λ exact. rw (trace_more c.args.events.now c.loop-i.i c.index-events-i.result within
           c.index-events-i.is)
-          ((rw (c.loop-i.invariant.same, c.loop-i.invariant.counting) at c.in-Ok-record.ensures.answer) exact
+          (records_by
+          (λ w x. tests_when w (record { eq = g.T.PartialEq.eq; rank = g.T.Term.rank }) g.N.PartialEq g.D.PartialEq g.C.Configs x)
+          (event_of c.index-events-i.result) c.loop-i.checker c.record.new.self (Ok tt)
+          c.args.counting c.args.configs c.loop-i.invariant.counting c.loop-i.invariant.same c.in-Ok-record.ensures.answer exact
           (trace_of (take c.loop-i.i c.args.events.now)) (c.loop-i.invariant.seen exact)).1;
     }
 

@@ -6,6 +6,7 @@ use Rattle.std.proofs.Common.{
   ℕ,
   Err,
   List,
+  Ok,
   Some,
   length,
   get_or,
@@ -112,7 +113,12 @@ returns-in-Ok-clause-more g c = λ _. record {
 pub returns-in-Ok-clause-records : goal.returns-in-Ok-clause-records
 unfolding returns-in-Ok-clause-more
 returns-in-Ok-clause-records g c = λ exact es seen.
-    let answer = (rw (c.loop-i.invariant.configs, c.loop-i.invariant.counting) at c.in-Ok.ensures.answer) exact es (c.loop-i.invariant.tried exact es seen).0 in (
+    let answer =
+    records_by
+    (λ w x. tests_when w (record { eq = g.T.PartialEq.eq; rank = g.T.Term.rank }) g.N.PartialEq g.D.PartialEq g.C.Configs x)
+    (event_of c.index.result.now) c.loop-i.checker c.record.new.self (Ok tt)
+    c.args.checker.now.counting c.args.checker.now.configs c.loop-i.invariant.counting c.loop-i.invariant.configs
+    c.in-Ok.ensures.answer exact es (c.loop-i.invariant.tried exact es seen).0 in (
       λ _. (returns-in-Ok-clause-more g c refl, answer.1),
       λ no. absurd (both_ways true no refl),
     )

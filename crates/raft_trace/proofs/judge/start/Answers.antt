@@ -12,8 +12,7 @@ returns c =
     let d = view c.in-Some.value in
     let members : Memberships ℕ ℕ = record { initial = c.in-Some-2.initial; held = c.new-held.result } in
     let voters : HasConfigs d c.in-Some-2.initial.items = rw c.in-Some-2.is at c.in_ok-initial.ensures in
-    started number_tests c.args.line.now _ members c.in_ok-checker.ensures.ok
-    c.in_ok-checker.ensures.counting (
+    started number_tests c.args.line.now _ members c.in_ok-checker.ensures.ok (
       d,
       rw c.in-Some.is at c.in_ok-value.ensures,
       c.if-not-is_named.ensures refl,

@@ -24,9 +24,12 @@ returns-in-Some-commit_rule-clause-answer g c =
     λ exact es keeps. commit_refused _ exact es c.args.term c.args.leader c.args.len c.args.counted_at (kept_by c.args.self.now)
     c.in-Some.j c.index.result.now c.in-Some-commit_rule.rule
     (c.in-Some.ensures.place exact es keeps) c.index.ensures keeps _ _
-    (commit_tests _ exact es c.args.term c.args.leader c.args.len c.args.counted_at (kept_by c.args.self.now) c.in-Some.j
-    c.index.result.now (g.C.Configs.holds_config c.args.self.now.configs) (λ d. refl) (c.in-Some.ensures.place exact es keeps).place c.index.ensures keeps)
-    (rw c.deref.ensures.value at (sym (c.in-Some-commit_rule.ensures (g.C.Configs.holds_config c.args.self.now.configs) (exact_entries _ exact)
+    (commit_tests _ exact es c.args.term c.args.leader c.args.len c.args.counted_at (kept_by c.args.self.now)
+    c.in-Some.j
+    c.index.result.now (g.C.Configs.holds_config c.args.self.now.configs) (λ d. refl)
+    (c.in-Some.ensures.place exact es keeps).place c.index.ensures keeps)
+    (rw c.deref.ensures.value at (sym (c.in-Some-commit_rule.ensures (g.C.Configs.holds_config c.args.self.now.configs)
+    (exact_entries _ exact)
     (logs_by (g.C.Configs.holds_config c.args.self.now.configs) c.args.self.now.logs keeps.are_logs)
     (keeps.have_logs.of_leaders c.in-Some.j c.index.result.now
     (found_within _ _ _ (c.in-Some.ensures.place exact es keeps).place) c.index.ensures))))
@@ -39,9 +42,12 @@ returns-then-not-is_quorum-clause-answer g c =
     c.config_content-config.result c.is_quorum.result
     (c.in-Some.ensures.place exact es keeps) c.index.ensures c.index-2.ensures c.index-3.ensures
     keeps _ _
-    (commit_tests _ exact es c.args.term c.args.leader c.args.len c.args.counted_at (kept_by c.args.self.now) c.in-Some.j
-    c.index.result.now (g.C.Configs.holds_config c.args.self.now.configs) (λ d. refl) (c.in-Some.ensures.place exact es keeps).place c.index.ensures keeps)
-    (rw c.deref.ensures.value at (sym (c.in-None-commit_rule.ensures (g.C.Configs.holds_config c.args.self.now.configs) (exact_entries _ exact)
+    (commit_tests _ exact es c.args.term c.args.leader c.args.len c.args.counted_at (kept_by c.args.self.now)
+    c.in-Some.j
+    c.index.result.now (g.C.Configs.holds_config c.args.self.now.configs) (λ d. refl)
+    (c.in-Some.ensures.place exact es keeps).place c.index.ensures keeps)
+    (rw c.deref.ensures.value at (sym (c.in-None-commit_rule.ensures (g.C.Configs.holds_config c.args.self.now.configs)
+    (exact_entries _ exact)
     (logs_by (g.C.Configs.holds_config c.args.self.now.configs) c.args.self.now.logs keeps.are_logs)
     (keeps.have_logs.of_leaders c.in-Some.j c.index.result.now
     (found_within _ _ _ (c.in-Some.ensures.place exact es keeps).place) c.index.ensures)))) c.in_ok-servers.ensures.servers
@@ -56,14 +62,18 @@ returns-then-not-is_quorum-clause-answer g c =
 
 pub returns-clause-answer : goal.returns-clause-answer
 returns-clause-answer g c =
-    λ exact es keeps. rw c.in_ok-note.ensures.rest (commit_done _ exact es c.args.term c.args.leader c.args.len c.args.counted_at (kept_by c.args.self.now) c.in-Some.j
+    λ exact es keeps. rw c.in_ok-note.ensures.rest (commit_done _ exact es c.args.term c.args.leader c.args.len
+    c.args.counted_at (kept_by c.args.self.now) c.in-Some.j
     c.index.result.now c.index-2.result.now c.index-3.result.now c.index_mut.result.now c.commit.new.self c.in_ok-servers.servers.items
     c.config_content-config.result c.is_quorum.result
     (c.in-Some.ensures.place exact es keeps) c.index.ensures c.index-2.ensures c.index-3.ensures
     (rw c.in_ok-note.ensures.rest at c.index_mut.ensures.value) keeps _ _
-    (commit_tests _ exact es c.args.term c.args.leader c.args.len c.args.counted_at (kept_by c.args.self.now) c.in-Some.j
-    c.index.result.now (g.C.Configs.holds_config c.args.self.now.configs) (λ d. refl) (c.in-Some.ensures.place exact es keeps).place c.index.ensures keeps)
-    (rw c.deref.ensures.value at (sym (c.in-None-commit_rule.ensures (g.C.Configs.holds_config c.args.self.now.configs) (exact_entries _ exact)
+    (commit_tests _ exact es c.args.term c.args.leader c.args.len c.args.counted_at (kept_by c.args.self.now)
+    c.in-Some.j
+    c.index.result.now (g.C.Configs.holds_config c.args.self.now.configs) (λ d. refl)
+    (c.in-Some.ensures.place exact es keeps).place c.index.ensures keeps)
+    (rw c.deref.ensures.value at (sym (c.in-None-commit_rule.ensures (g.C.Configs.holds_config c.args.self.now.configs)
+    (exact_entries _ exact)
     (logs_by (g.C.Configs.holds_config c.args.self.now.configs) c.args.self.now.logs keeps.are_logs)
     (keeps.have_logs.of_leaders c.in-Some.j c.index.result.now
     (found_within _ _ _ (c.in-Some.ensures.place exact es keeps).place) c.index.ensures)))) c.in_ok-servers.ensures.servers
