@@ -1,13 +1,18 @@
 -- A recorded run, and the trace that its lines say.
-use Rattle.std.specs.Prelude.{◌≡◌, ◌⊎◌, ℕ, true, List, [], ◌∷◌, Option, Some, None, ⊤, codes}
+use Rattle.std.specs.Prelude.{◌≡◌, ◌⊎◌, ℕ, true, List, [], ◌∷◌, ◌++◌, Option, Some, None, ⊤, codes}
+use Rattle.std.specs.Global.{Vec}
+use Rattle.std.specs.List.{All}
 use Rattle.serde_json.specs.Data.{Data}
 use Rattle.serde_json.specs.Read.{read}
-use Rattle.raft_safety.specs.Trace.{AreExact, IsSafeTrace, Tests, TraceEvent, are_allowed}
+use Rattle.raft_safety.specs.Trace.{AreExact, IsSafeTrace, Tests, TraceEvent, Appended, Acked, Committed, are_allowed}
 use Rattle.raft_safety.specs.Checker.{Keeps, configs_of, kept_by}
+use Rattle.raft_safety.specs.declared.checker.violation.Violation.TheVariants.{Rule as BreaksRule}
 use Rattle.raft_safety.specs.declared.memberships.Memberships.{Memberships}
 use Rattle.raft_trace.specs.Fields.{HasConfigs, IsFirst, IsNamed}
 use Rattle.raft_trace.specs.Input.{lines}
 use Rattle.raft_trace.specs.Line.{IsVote, Says}
+use Rattle.raft_trace.specs.declared.fault.Fault.{Fault}
+use Rattle.raft_trace.specs.declared.fault.Fault.TheVariants.{Refused}
 use Rattle.raft_trace.specs.declared.judge.Judge.{Judge}
 
 -- a trace has one event more, or the event is a vote that is left out
@@ -20,12 +25,26 @@ AddsLine first line before after =
     ((line ≡ []) × (after ≡ before))
     ⊎ ((d : Data) × (e : TraceEvent ℕ ℕ ℕ) × (read line ≡ Some d) × Says first d e × Adds e before after)
 
--- a trace is what these lines say, in their order, but for votes that are left out. The latest line and
--- the latest event are first
+-- an event that may be filled in, though no line says it: a server takes or acknowledges entries, or a
+-- leader commits them
+abbrev pub IsFilledIn : TraceEvent ℕ ℕ ℕ → Type 0
+IsFilledIn (Appended s t c n sent) = Unit {0}
+IsFilledIn (Acked s t c n) = Unit {0}
+IsFilledIn (Committed c t n m) = Unit {0}
+IsFilledIn e = ⊥
+
+-- a trace has events more, each of which may be filled in
+abbrev pub FillsIn : List (TraceEvent ℕ ℕ ℕ) → List (TraceEvent ℕ ℕ ℕ) → Type 0
+FillsIn before after =
+    (filled : List (TraceEvent ℕ ℕ ℕ)) × All IsFilledIn filled × (after ≡ filled ++ before)
+
+-- a trace is what these lines say, in their order, but for votes that are left out, and for events that
+-- are filled in before the first line, or after any one. The latest line and the latest event are first
 abbrev pub IsTraceOf : ℕ → List (List ℕ) → List (TraceEvent ℕ ℕ ℕ) → Type 0
-IsTraceOf first [] es = es ≡ []
+IsTraceOf first [] es = FillsIn [] es
 IsTraceOf first (line ∷ earlier) es =
-    (before : List (TraceEvent ℕ ℕ ℕ)) × IsTraceOf first earlier before × AddsLine first line before es
+    (before : List (TraceEvent ℕ ℕ ℕ)) × IsTraceOf first earlier before
+    × ((after : List (TraceEvent ℕ ℕ ℕ)) × AddsLine first line before after × FillsIn after es)
 
 -- lines after which others come, the latest first
 abbrev pub and_lines : List (List ℕ) → List (List ℕ) → List (List ℕ)
@@ -33,10 +52,14 @@ and_lines earlier [] = earlier
 and_lines earlier (line ∷ later) = and_lines (line ∷ earlier) later
 
 -- how a line says that the cluster starts: the configs of the voters, and the index of the first entry
-abbrev pub SaysStart : List ℕ → Memberships ℕ ℕ → ℕ → Type 0
-SaysStart line members first =
-    (d : Data) × (read line ≡ Some d) × IsNamed (codes "started") d
-    × HasConfigs d members.initial.items × (members.held.items ≡ []) × IsFirst first d
+abbrev pub SaysStart : List ℕ → List (Vec ℕ) → ℕ → Type 0
+SaysStart line configs first =
+    (d : Data) × (read line ≡ Some d) × IsNamed (codes "started") d × HasConfigs d configs × IsFirst first d
+
+-- a line is refused because it breaks a rule
+abbrev pub IsBroken : Fault → Type 0
+IsBroken (Refused (BreaksRule rule)) = Unit {0}
+IsBroken fault = ⊥
 
 module _ (tests : Memberships ℕ ℕ → Tests ℕ ℕ ℕ (Option ℕ)) where
   -- the lines after the first one are a trace that is allowed, and so it is safe
@@ -46,7 +69,8 @@ module _ (tests : Memberships ℕ ℕ → Tests ℕ ℕ ℕ (Option ℕ)) where
     pub lines_are : lines text ≡ first_line ∷ later
     pub members : Memberships ℕ ℕ
     pub first : ℕ
-    pub starts : SaysStart first_line members first
+    pub starts : SaysStart first_line members.initial.items first
+    pub no_changes : members.held.items ≡ []
     pub trace : List (TraceEvent ℕ ℕ ℕ)
     pub is_trace : IsTraceOf first (and_lines [] later) trace
     pub allowed : are_allowed (tests members) trace ≡ true
@@ -62,15 +86,18 @@ module _ (tests : Memberships ℕ ℕ → Tests ℕ ℕ ℕ (Option ℕ)) where
     pub exact : AreExact (tests (configs_of judge.checker))
     pub trace : List (TraceEvent ℕ ℕ ℕ)
     pub is_trace : IsTraceOf judge.first taken trace
+    pub no_changes : (configs_of judge.checker).held.items ≡ []
     pub keeps : Keeps (tests (configs_of judge.checker)) trace (kept_by judge.checker)
 
   -- a judge that has taken no line after the first one
   abbrev pub IsStarted : List ℕ → Judge → Type 0
-  IsStarted line judge = SaysStart line (configs_of judge.checker) judge.first × HasTaken [] judge
+  IsStarted line judge =
+      SaysStart line (configs_of judge.checker).initial.items judge.first × HasTaken [] judge
 
-  -- a judge goes on with the same members and the same first index
+  -- a judge goes on with the same first membership and the same first index
   abbrev pub GoesOn : Judge → Judge → Type 0
-  GoesOn old new = (configs_of new.checker ≡ configs_of old.checker) × (new.first ≡ old.first)
+  GoesOn old new =
+      ((configs_of new.checker).initial ≡ (configs_of old.checker).initial) × (new.first ≡ old.first)
 
   -- a judge takes one line more
   abbrev pub Takes : List ℕ → Judge → Judge → Type 0
@@ -78,14 +105,30 @@ module _ (tests : Memberships ℕ ℕ → Tests ℕ ℕ ℕ (Option ℕ)) where
       GoesOn old new
       × ((taken : List (List ℕ)) → HasTaken taken old → HasTaken (line ∷ taken) new)
 
-  -- a judge takes one event more
-  abbrev pub TakesEvent : TraceEvent ℕ ℕ ℕ → Judge → Judge → Type 0
-  TakesEvent e old new =
-      GoesOn old new
+  -- a judge takes no line: what it had taken, it still has taken
+  abbrev pub Refuses : Judge → Judge → Type 0
+  Refuses old new = GoesOn old new × ((taken : List (List ℕ)) → HasTaken taken old → HasTaken taken new)
+
+  -- a judge that keeps the events of a trace keeps those of another one, of which this is known
+  abbrev pub KeepsMore : (List (TraceEvent ℕ ℕ ℕ) → List (TraceEvent ℕ ℕ ℕ) → Type 0) → Judge → Judge
+      → Type 0
+  KeepsMore P old new =
+      (configs_of new.checker ≡ configs_of old.checker)
+      × (new.first ≡ old.first)
       × (AreExact (tests (configs_of old.checker)) → (es : List (TraceEvent ℕ ℕ ℕ))
       → Keeps (tests (configs_of old.checker)) es (kept_by old.checker)
-      → (after : List (TraceEvent ℕ ℕ ℕ)) × Adds e es after
+      → (after : List (TraceEvent ℕ ℕ ℕ)) × P es after
       × Keeps (tests (configs_of old.checker)) after (kept_by new.checker))
+
+  -- a judge fills in events
+  abbrev pub Fills : Judge → Judge → Type 0
+  Fills old new = KeepsMore FillsIn old new
+
+  -- a judge takes one event more, and may fill in others before
+  abbrev pub TakesEvent : TraceEvent ℕ ℕ ℕ → Judge → Judge → Type 0
+  TakesEvent e old new =
+      KeepsMore
+      (λ es after. (before : List (TraceEvent ℕ ℕ ℕ)) × FillsIn es before × Adds e before after) old new
 
   -- a judge takes all lines of a text, if it is known
   abbrev pub TakesAll : Option (List ℕ) → Judge → Judge → Type 0

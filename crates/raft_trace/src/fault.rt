@@ -1,4 +1,7 @@
 //! Why a line is not taken.
+ghost use Rattle.std.specs.Prelude.{◌≡◌};
+ghost use Rattle.raft_safety.specs.declared.checker.violation.Violation.TheVariants.{OutOfMemory};
+ghost use Rattle.raft_trace.specs.declared.fault.Fault.TheVariants.{Refused};
 
 use raft_safety::checker::Violation;
 use std::alloc::AllocError;
@@ -13,12 +16,16 @@ pub enum Fault {
 }
 
 impl From<AllocError> for Fault {
+    ghost from_gives = { λ _ f. f ≡ Refused OutOfMemory };
+
     fn from(_error: AllocError) -> Fault {
         Fault::Refused(Violation::OutOfMemory)
     }
 }
 
 impl From<Violation> for Fault {
+    ghost from_gives = { λ v f. f ≡ Refused v };
+
     fn from(violation: Violation) -> Fault {
         Fault::Refused(violation)
     }

@@ -1,10 +1,10 @@
 //! Judges the lines of a recorded run.
-ghost use Rattle.std.specs.Prelude.{◌≡◌, IfOk, IfSome, IsTrue, OnOk};
+ghost use Rattle.std.specs.Prelude.{◌≡◌, IfErr, IfOk, IfSome, IsTrue, OnOk};
 ghost use Rattle.raft_safety.specs.Checker.{event_of as trace_event};
 ghost use Rattle.serde_json.specs.View.{view};
 ghost use Rattle.raft_trace.specs.Line.{Says};
 ghost use Rattle.raft_trace.specs.Numbers.{number_tests};
-ghost use Rattle.raft_trace.specs.Run.{IsSafeRun, IsStarted, Takes, TakesAll, TakesEvent};
+ghost use Rattle.raft_trace.specs.Run.{Fills, IsBroken, IsSafeRun, IsStarted, Refuses, Takes, TakesAll, TakesEvent};
 
 use crate::counts::Counts;
 use crate::event::{Act, event_of, installed};
@@ -121,8 +121,15 @@ fn start(alloc: Global, line: &[u8]) -> Result<Judge, Fault>
 impl Judge {
     /// Takes the next line. An empty line says nothing, and a vote that a server sends again is left
     /// out.
+    ///
+    /// # Errors
+    ///
+    /// Why the line is not taken. If it breaks a rule, the judge still has taken the lines before, so
+    /// it may take another one.
     pub fn take(&mut self, alloc: Global, line: &[u8]) -> Result<(), Fault>
-        ensures { OnOk result (Takes number_tests line.now self.old self.new) }
+        ensures taken { OnOk result (Takes number_tests line.now self.old self.new) }
+        ensures broken { IfErr result (λ fault. IsBroken fault →
+            Refuses number_tests self.old self.new) }
     {
         if line.is_empty() {
             return Ok(());
@@ -156,8 +163,10 @@ impl Judge {
 
     /// Takes the next event.
     fn take_event(&mut self, event: &Act) -> Result<(), Fault>
-        ensures { OnOk result
+        ensures taken { OnOk result
             (TakesEvent number_tests (trace_event event.now) self.old self.new) }
+        ensures broken { IfErr result (λ fault. IsBroken fault →
+            Fills number_tests self.old self.new) }
     {
         if self.counts.has_vote(event) {
             self.counts.left_out = self.counts.left_out.saturating_add(1);

@@ -1,6 +1,8 @@
 -- Lines that a judge takes.
-use Rattle.std.specs.Prelude.{◌≡◌, ℕ, Bool, true, false, List, [], ◌∷◌, Option, Some, None, ⊤}
-use Rattle.std.proofs.Common.{refl, sym, ap, subst, ◌∙◌, inl, inr}
+use Rattle.std.specs.Prelude.{◌≡◌, ℕ, Bool, true, false, List, [], ◌∷◌, ◌++◌, Option, Some, None, Result, Ok, Err, IfErr, ⊤}
+use Rattle.std.proofs.Common.{refl, sym, ap, subst, ◌∙◌, inl, inr, append_assoc}
+use Rattle.std.proofs.lemmas.List.Elements.{All-append, All-nil}
+use Rattle.std.specs.Global.{Vec}
 use Rattle.std.specs.Io.KnownBytes.{Keeps}
 use Rattle.serde_json.specs.Data.{Data}
 use Rattle.serde_json.specs.Read.{read}
@@ -9,32 +11,46 @@ use Rattle.raft_safety.specs.Checker.{Keeps as KeepsEvents, configs_of, kept_by}
 use Rattle.raft_safety.specs.declared.memberships.Memberships.{Memberships}
 use Rattle.raft_trace.specs.Input.{TakesLine, lines}
 use Rattle.raft_trace.specs.Line.{Says}
-use Rattle.raft_trace.specs.Run.{
-  GoesOn,
-  HasTaken,
-  IsSafeRun,
-  IsStarted,
-  IsTraceOf,
-  SafeRun,
-  SaysStart,
-  Takes,
-  TakesAll,
-  TakesEvent,
-  and_lines,
-}
+use Rattle.raft_trace.specs.Run.{Fills, FillsIn, GoesOn, HasTaken, IsFilledIn, IsSafeRun, IsStarted, IsTraceOf, Refuses, SafeRun, SaysStart, Takes, TakesAll, TakesEvent, and_lines}
 use Rattle.raft_trace.specs.declared.judge.Judge.{Judge}
+
+-- what holds of each error holds of the one that is returned, if there is one
+pub whatever_err : {T E : Type 0} → (r : Result T E) (P : E → Type 0) → ((e : E) → P e) → IfErr r P
+whatever_err (Ok x) P h = tt
+whatever_err (Err e) P h = h e
+
+-- ---- events that are filled in
+
+pub fills_none : (es : List (TraceEvent ℕ ℕ ℕ)) → FillsIn es es
+fills_none es = ([], All-nil IsFilledIn, refl)
+
+pub fills_more : (before es after : List (TraceEvent ℕ ℕ ℕ)) → FillsIn before es → FillsIn es after
+    → FillsIn before after
+fills_more before es after one two = (
+  two.0 ++ one.0,
+  All-append IsFilledIn two.0 one.0 two.1 one.1,
+  two.2 ∙ ap (λ (l : List (TraceEvent ℕ ℕ ℕ)). two.0 ++ l) one.2 ∙ sym (append_assoc two.0 one.0 before),
+)
+
+-- events that are filled in after a trace of lines are part of a trace of these lines
+pub trace_fills : (first : ℕ) (taken : List (List ℕ)) (es after : List (TraceEvent ℕ ℕ ℕ))
+    → IsTraceOf first taken es → FillsIn es after → IsTraceOf first taken after
+trace_fills first [] es after is fills = fills_more [] es after is fills
+trace_fills first (line ∷ taken) es after is fills =
+    (is.0, is.1, (is.2.0, is.2.1, fills_more is.2.0 es after is.2.2 fills))
 
 module _ (tests : Memberships ℕ ℕ → Tests ℕ ℕ ℕ (Option ℕ)) where
   -- a judge that is made has taken no line
   pub started : (line : List ℕ) (judge : Judge) (members : Memberships ℕ ℕ) → configs_of judge.checker ≡ members
-      → SaysStart line members judge.first → AreExact (tests members)
+      → SaysStart line members.initial.items judge.first → members.held.items ≡ [] → AreExact (tests members)
       → KeepsEvents (tests members) [] (kept_by judge.checker) → IsStarted tests line judge
-  started line judge members is says exact keeps = (
-    subst (λ (m : Memberships ℕ ℕ). SaysStart line m judge.first) (sym is) says,
+  started line judge members is says none exact keeps = (
+    subst (λ (m : Memberships ℕ ℕ). SaysStart line m.initial.items judge.first) (sym is) says,
     record {
       exact = subst (λ (m : Memberships ℕ ℕ). AreExact (tests m)) (sym is) exact;
       trace = [];
-      is_trace = refl;
+      is_trace = fills_none [];
+      no_changes = ap (λ (m : Memberships ℕ ℕ). m.held.items) is ∙ none;
       keeps = subst (λ (m : Memberships ℕ ℕ). KeepsEvents (tests m) [] (kept_by judge.checker)) (sym is) keeps;
     },
   )
@@ -46,7 +62,8 @@ module _ (tests : Memberships ℕ ℕ → Tests ℕ ℕ ℕ (Option ℕ)) where
     λ taken has. record {
       exact = has.exact;
       trace = has.trace;
-      is_trace = (has.trace, has.is_trace, inl (is, refl));
+      is_trace = (has.trace, has.is_trace, (has.trace, inl (is, refl), fills_none has.trace));
+      no_changes = has.no_changes;
       keeps = has.keeps;
     },
   )
@@ -55,18 +72,43 @@ module _ (tests : Memberships ℕ ℕ → Tests ℕ ℕ ℕ (Option ℕ)) where
   pub takes_event : (line : List ℕ) (old new : Judge) (d : Data) (e : TraceEvent ℕ ℕ ℕ) → read line ≡ Some d
       → Says old.first d e → TakesEvent tests e old new → Takes tests line old new
   takes_event line old new d e reads says taken_event = (
-    taken_event.0,
+    (ap (λ (m : Memberships ℕ ℕ). m.initial) taken_event.0, taken_event.1),
     λ taken has.
-        let next = taken_event.1 has.exact has.trace has.keeps in
-        let same : tests (configs_of old.checker) ≡ tests (configs_of new.checker) = ap tests (sym taken_event.0.0) in
+        let next = taken_event.2 has.exact has.trace has.keeps in
+        let same : tests (configs_of old.checker) ≡ tests (configs_of new.checker) = ap tests (sym taken_event.0) in
         record {
           exact = subst (λ (k : Tests ℕ ℕ ℕ (Option ℕ)). AreExact k) same has.exact;
           trace = next.0;
-          is_trace = subst (λ (n : ℕ). IsTraceOf n (line ∷ taken) next.0) (sym taken_event.0.1)
-              (has.trace, has.is_trace, inr (d, e, reads, says, next.1));
+          is_trace = subst (λ (n : ℕ). IsTraceOf n (line ∷ taken) next.0) (sym taken_event.1) (
+            next.1.0,
+            trace_fills old.first taken has.trace next.1.0 has.is_trace next.1.1,
+            (next.0, inr (d, e, reads, says, next.1.2), fills_none next.0),
+          );
+          no_changes = ap (λ (m : Memberships ℕ ℕ). m.held.items) taken_event.0 ∙ has.no_changes;
           keeps = subst (λ (k : Tests ℕ ℕ ℕ (Option ℕ)). KeepsEvents k next.0 (kept_by new.checker)) same next.2;
         },
   )
+
+  -- a line is refused: events may have been filled in
+  pub refuses : (old new : Judge) → Fills tests old new → Refuses tests old new
+  refuses old new fills = (
+    (ap (λ (m : Memberships ℕ ℕ). m.initial) fills.0, fills.1),
+    λ taken has.
+        let next = fills.2 has.exact has.trace has.keeps in
+        let same : tests (configs_of old.checker) ≡ tests (configs_of new.checker) = ap tests (sym fills.0) in
+        record {
+          exact = subst (λ (k : Tests ℕ ℕ ℕ (Option ℕ)). AreExact k) same has.exact;
+          trace = next.0;
+          is_trace = subst (λ (n : ℕ). IsTraceOf n taken next.0) (sym fills.1)
+              (trace_fills old.first taken has.trace next.0 has.is_trace next.1);
+          no_changes = ap (λ (m : Memberships ℕ ℕ). m.held.items) fills.0 ∙ has.no_changes;
+          keeps = subst (λ (k : Tests ℕ ℕ ℕ (Option ℕ)). KeepsEvents k next.0 (kept_by new.checker)) same next.2;
+        },
+  )
+
+  -- a line that is refused at once
+  pub fills_nothing : (judge : Judge) → Fills tests judge judge
+  fills_nothing judge = (refl, refl, λ exact es keeps. (es, fills_none es, keeps))
 
   -- what is left of a text, after a judge has taken some of its lines
   abbrev pub HasPassed : Option (List ℕ) → Judge → Option (List ℕ) → Judge → Type 0
@@ -119,12 +161,12 @@ module _ (tests : Memberships ℕ ℕ → Tests ℕ ℕ ℕ (Option ℕ)) where
   -- a judge that has taken all lines after the first one
   is_safe : ((m : Memberships ℕ ℕ) (t u : ℕ) → (tests m).rank t ≡ (tests m).rank u → t ≡ u)
       → TracesAreExecutions ℕ ℕ ℕ (Option ℕ) → (text line : List ℕ) (later : List (List ℕ)) (old new : Judge)
-      → lines text ≡ line ∷ later → SaysStart line (configs_of old.checker) old.first → GoesOn tests old new
+      → lines text ≡ line ∷ later → SaysStart line (configs_of old.checker).initial.items old.first → GoesOn tests old new
       → HasTaken tests (and_lines [] later) new → SafeRun tests text
   is_safe ranks law text line later old new is says goes has =
-      let starts : SaysStart line (configs_of new.checker) new.first =
-      subst (λ (m : Memberships ℕ ℕ). SaysStart line m new.first) (sym goes.0)
-      (subst (λ (n : ℕ). SaysStart line (configs_of old.checker) n) (sym goes.1) says) in
+      let starts : SaysStart line (configs_of new.checker).initial.items new.first =
+      subst (λ (v : Vec (Vec ℕ)). SaysStart line v.items new.first) (sym goes.0)
+      (subst (λ (n : ℕ). SaysStart line (configs_of old.checker).initial.items n) (sym goes.1) says) in
       record {
         first_line = line;
         later = later;
@@ -132,6 +174,7 @@ module _ (tests : Memberships ℕ ℕ → Tests ℕ ℕ ℕ (Option ℕ)) where
         members = configs_of new.checker;
         first = new.first;
         starts = starts;
+        no_changes = has.no_changes;
         trace = has.trace;
         is_trace = has.is_trace;
         allowed = has.keeps.seen.allowed;

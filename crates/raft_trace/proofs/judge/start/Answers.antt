@@ -17,8 +17,8 @@ returns c =
       rw c.in-Some.is at c.in_ok-value.ensures,
       c.if-not-is_named.ensures refl,
       voters,
-      c.new-held.ensures.items,
       c.in-Some-first_index.ensures,
     )
+    c.new-held.ensures.items
     (c.memberships_are_exact.ensures (λ x y e. eqb-true x y e) (λ x y e. eqb-true x y e) (λ x y e. eqb-true x y e))
     c.in_ok-checker.ensures.begins
