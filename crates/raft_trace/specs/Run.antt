@@ -2,17 +2,19 @@
 use Rattle.std.specs.Prelude.{◌≡◌, ◌⊎◌, ℕ, true, List, [], ◌∷◌, Option, Some, None, ⊤, codes}
 use Rattle.serde_json.specs.Data.{Data}
 use Rattle.serde_json.specs.Read.{read}
+use Rattle.raft_safety.specs.Ranks.{IsAmong}
 use Rattle.raft_safety.specs.Trace.{AreExact, IsSafeTrace, Tests, TraceEvent, are_allowed}
 use Rattle.raft_safety.specs.Checker.{Keeps, configs_of, kept_by}
 use Rattle.raft_safety.specs.declared.memberships.Memberships.{Memberships}
 use Rattle.raft_trace.specs.Fields.{HasConfigs, IsFirst, IsNamed}
 use Rattle.raft_trace.specs.Input.{lines}
 use Rattle.raft_trace.specs.Line.{IsVote, Says}
+use Rattle.raft_trace.specs.Votes.{AreVotesIn}
 use Rattle.raft_trace.specs.declared.judge.Judge.{Judge}
 
--- a trace has one event more, or the event is a vote that is left out
+-- a trace has one event more, or the event is a vote that the trace has already
 abbrev pub Adds : TraceEvent ℕ ℕ ℕ → List (TraceEvent ℕ ℕ ℕ) → List (TraceEvent ℕ ℕ ℕ) → Type 0
-Adds e before after = (after ≡ e ∷ before) ⊎ (IsVote e × (after ≡ before))
+Adds e before after = (after ≡ e ∷ before) ⊎ (IsVote e × IsAmong e before × (after ≡ before))
 
 -- a trace has the event more that a line says. An empty line says nothing
 abbrev pub AddsLine : ℕ → List ℕ → List (TraceEvent ℕ ℕ ℕ) → List (TraceEvent ℕ ℕ ℕ) → Type 0
@@ -20,8 +22,8 @@ AddsLine first line before after =
     ((line ≡ []) × (after ≡ before))
     ⊎ ((d : Data) × (e : TraceEvent ℕ ℕ ℕ) × (read line ≡ Some d) × Says first d e × Adds e before after)
 
--- a trace is what these lines say, in their order, but for votes that are left out. The latest line and
--- the latest event are first
+-- a trace is what these lines say, in their order, but for votes that it has already. The latest line
+-- and the latest event are first
 abbrev pub IsTraceOf : ℕ → List (List ℕ) → List (TraceEvent ℕ ℕ ℕ) → Type 0
 IsTraceOf first [] es = es ≡ []
 IsTraceOf first (line ∷ earlier) es =
@@ -63,6 +65,7 @@ module _ (tests : Memberships ℕ ℕ → Tests ℕ ℕ ℕ (Option ℕ)) where
     pub trace : List (TraceEvent ℕ ℕ ℕ)
     pub is_trace : IsTraceOf judge.first taken trace
     pub keeps : Keeps (tests (configs_of judge.checker)) trace (kept_by judge.checker)
+    pub votes : AreVotesIn judge.counts.votes.entries trace
 
   -- a judge that has taken no line after the first one
   abbrev pub IsStarted : List ℕ → Judge → Type 0
@@ -84,8 +87,10 @@ module _ (tests : Memberships ℕ ℕ → Tests ℕ ℕ ℕ (Option ℕ)) where
       GoesOn old new
       × (AreExact (tests (configs_of old.checker)) → (es : List (TraceEvent ℕ ℕ ℕ))
       → Keeps (tests (configs_of old.checker)) es (kept_by old.checker)
+      → AreVotesIn old.counts.votes.entries es
       → (after : List (TraceEvent ℕ ℕ ℕ)) × Adds e es after
-      × Keeps (tests (configs_of old.checker)) after (kept_by new.checker))
+      × Keeps (tests (configs_of old.checker)) after (kept_by new.checker)
+      × AreVotesIn new.counts.votes.entries after)
 
   -- a judge takes all lines of a text, if it is known
   abbrev pub TakesAll : Option (List ℕ) → Judge → Judge → Type 0

@@ -23,19 +23,22 @@ use Rattle.raft_trace.specs.Run.{
   and_lines,
 }
 use Rattle.raft_trace.specs.declared.judge.Judge.{Judge}
+use Rattle.raft_trace.proofs.lemmas.VoteLemmas.{no_votes_in}
 
 module _ (tests : Memberships ℕ ℕ → Tests ℕ ℕ ℕ (Option ℕ)) where
   -- a judge that is made has taken no line
   pub started : (line : List ℕ) (judge : Judge) (members : Memberships ℕ ℕ) → configs_of judge.checker ≡ members
       → SaysStart line members judge.first → AreExact (tests members)
-      → KeepsEvents (tests members) [] (kept_by judge.checker) → IsStarted tests line judge
-  started line judge members is says exact keeps = (
+      → KeepsEvents (tests members) [] (kept_by judge.checker) → judge.counts.votes.entries ≡ []
+      → IsStarted tests line judge
+  started line judge members is says exact keeps no_votes = (
     subst (λ (m : Memberships ℕ ℕ). SaysStart line m judge.first) (sym is) says,
     record {
       exact = subst (λ (m : Memberships ℕ ℕ). AreExact (tests m)) (sym is) exact;
       trace = [];
       is_trace = refl;
       keeps = subst (λ (m : Memberships ℕ ℕ). KeepsEvents (tests m) [] (kept_by judge.checker)) (sym is) keeps;
+      votes = no_votes_in judge.counts.votes.entries [] no_votes;
     },
   )
 
@@ -48,6 +51,7 @@ module _ (tests : Memberships ℕ ℕ → Tests ℕ ℕ ℕ (Option ℕ)) where
       trace = has.trace;
       is_trace = (has.trace, has.is_trace, inl (is, refl));
       keeps = has.keeps;
+      votes = has.votes;
     },
   )
 
@@ -57,7 +61,7 @@ module _ (tests : Memberships ℕ ℕ → Tests ℕ ℕ ℕ (Option ℕ)) where
   takes_event line old new d e reads says taken_event = (
     taken_event.0,
     λ taken has.
-        let next = taken_event.1 has.exact has.trace has.keeps in
+        let next = taken_event.1 has.exact has.trace has.keeps has.votes in
         let same : tests (configs_of old.checker) ≡ tests (configs_of new.checker) = ap tests (sym taken_event.0.0) in
         record {
           exact = subst (λ (k : Tests ℕ ℕ ℕ (Option ℕ)). AreExact k) same has.exact;
@@ -65,6 +69,7 @@ module _ (tests : Memberships ℕ ℕ → Tests ℕ ℕ ℕ (Option ℕ)) where
           is_trace = subst (λ (n : ℕ). IsTraceOf n (line ∷ taken) next.0) (sym taken_event.0.1)
               (has.trace, has.is_trace, inr (d, e, reads, says, next.1));
           keeps = subst (λ (k : Tests ℕ ℕ ℕ (Option ℕ)). KeepsEvents k next.0 (kept_by new.checker)) same next.2;
+          votes = next.3;
         },
   )
 

@@ -1,13 +1,18 @@
-use Rattle.std.proofs.Common.{◌∷◌, refl, inl}
+use Rattle.std.proofs.Common.{◌∷◌, refl, inl, inr}
 use Rattle.raft_safety.specs.Checker.{event_of as trace_event}
+use Rattle.raft_trace.proofs.lemmas.VoteLemmas.{last_is_in, last_is_vote, more_votes}
 use Rattle.raft_trace.proofs.judge.Judge.take_event.Goals as goal
+
+pub returns-then-has_vote : goal.returns-then-has_vote
+returns-then-has_vote c = ?
 
 pub returns : goal.returns
 returns c = (
   (c.in_ok-record.ensures.configs, refl),
-  λ exact es keeps. (
+  λ exact es keeps votes. (
     trace_event c.args.event.now ∷ es,
     inl refl,
     (c.in_ok-record.ensures.answer exact es keeps).1,
+    more_votes _ _ (trace_event c.args.event.now) es c.note.ensures votes,
   ),
 )
