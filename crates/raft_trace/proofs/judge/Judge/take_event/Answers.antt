@@ -4,7 +4,16 @@ use Rattle.raft_trace.proofs.lemmas.VoteLemmas.{last_is_in, last_is_vote, more_v
 use Rattle.raft_trace.proofs.judge.Judge.take_event.Goals as goal
 
 pub returns-then-has_vote : goal.returns-then-has_vote
-returns-then-has_vote c = ?
+returns-then-has_vote c =
+    let last = c.has_vote.ensures c.if-has_vote.true in (
+      (refl, refl),
+      λ exact es keeps votes. (
+        es,
+        inr (last_is_vote _ (trace_event c.args.event.now) last, last_is_in _ (trace_event c.args.event.now) es last votes, refl),
+        keeps,
+        votes,
+      ),
+    )
 
 pub returns : goal.returns
 returns c = (
@@ -13,6 +22,6 @@ returns c = (
     trace_event c.args.event.now ∷ es,
     inl refl,
     (c.in_ok-record.ensures.answer exact es keeps).1,
-    more_votes _ _ (trace_event c.args.event.now) es c.note.ensures votes,
+    more_votes _ _ (trace_event c.args.event.now) es c.in_ok-note.ensures votes,
   ),
 )
