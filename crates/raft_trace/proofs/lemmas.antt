@@ -1,3 +1,4 @@
 pub mod InputLemmas
 pub mod FieldLemmas
 pub mod RunLemmas
+pub mod VoteLemmas

@@ -3,3 +3,4 @@ pub mod Fields
 pub mod Line
 pub mod Numbers
 pub mod Run
+pub mod Votes

@@ -4,6 +4,7 @@ use Rattle.std.specs.Global.{Vec}
 use Rattle.std.specs.List.{All}
 use Rattle.serde_json.specs.Data.{Data}
 use Rattle.serde_json.specs.Read.{read}
+use Rattle.raft_safety.specs.Ranks.{IsAmong}
 use Rattle.raft_safety.specs.Trace.{AreExact, IsSafeTrace, Tests, TraceEvent, Appended, Acked, Committed, are_allowed}
 use Rattle.raft_safety.specs.Checker.{Keeps, configs_of, kept_by}
 use Rattle.raft_safety.specs.declared.checker.violation.Violation.TheVariants.{Rule as BreaksRule}
@@ -13,11 +14,12 @@ use Rattle.raft_trace.specs.Input.{lines}
 use Rattle.raft_trace.specs.Line.{IsVote, Says}
 use Rattle.raft_trace.specs.declared.fault.Fault.{Fault}
 use Rattle.raft_trace.specs.declared.fault.Fault.TheVariants.{Refused}
+use Rattle.raft_trace.specs.Votes.{AreVotesIn}
 use Rattle.raft_trace.specs.declared.judge.Judge.{Judge}
 
--- a trace has one event more, or the event is a vote that is left out
+-- a trace has one event more, or the event is a vote that the trace has already
 abbrev pub Adds : TraceEvent ℕ ℕ ℕ → List (TraceEvent ℕ ℕ ℕ) → List (TraceEvent ℕ ℕ ℕ) → Type 0
-Adds e before after = (after ≡ e ∷ before) ⊎ (IsVote e × (after ≡ before))
+Adds e before after = (after ≡ e ∷ before) ⊎ (IsVote e × IsAmong e before × (after ≡ before))
 
 -- a trace has the event more that a line says. An empty line says nothing
 abbrev pub AddsLine : ℕ → List ℕ → List (TraceEvent ℕ ℕ ℕ) → List (TraceEvent ℕ ℕ ℕ) → Type 0
@@ -38,8 +40,8 @@ abbrev pub FillsIn : List (TraceEvent ℕ ℕ ℕ) → List (TraceEvent ℕ ℕ 
 FillsIn before after =
     (filled : List (TraceEvent ℕ ℕ ℕ)) × All IsFilledIn filled × (after ≡ filled ++ before)
 
--- a trace is what these lines say, in their order, but for votes that are left out, and for events that
--- are filled in before the first line, or after any one. The latest line and the latest event are first
+-- a trace is what these lines say, in their order, but for votes that it has already, and for events
+-- that are filled in at any place. The latest line and the latest event are first
 abbrev pub IsTraceOf : ℕ → List (List ℕ) → List (TraceEvent ℕ ℕ ℕ) → Type 0
 IsTraceOf first [] es = FillsIn [] es
 IsTraceOf first (line ∷ earlier) es =
@@ -88,6 +90,7 @@ module _ (tests : Memberships ℕ ℕ → Tests ℕ ℕ ℕ (Option ℕ)) where
     pub is_trace : IsTraceOf judge.first taken trace
     pub no_changes : (configs_of judge.checker).held.items ≡ []
     pub keeps : Keeps (tests (configs_of judge.checker)) trace (kept_by judge.checker)
+    pub votes : AreVotesIn judge.counts.votes.entries trace
 
   -- a judge that has taken no line after the first one
   abbrev pub IsStarted : List ℕ → Judge → Type 0
@@ -117,8 +120,10 @@ module _ (tests : Memberships ℕ ℕ → Tests ℕ ℕ ℕ (Option ℕ)) where
       × (new.first ≡ old.first)
       × (AreExact (tests (configs_of old.checker)) → (es : List (TraceEvent ℕ ℕ ℕ))
       → Keeps (tests (configs_of old.checker)) es (kept_by old.checker)
+      → AreVotesIn old.counts.votes.entries es
       → (after : List (TraceEvent ℕ ℕ ℕ)) × P es after
-      × Keeps (tests (configs_of old.checker)) after (kept_by new.checker))
+      × Keeps (tests (configs_of old.checker)) after (kept_by new.checker)
+      × AreVotesIn new.counts.votes.entries after)
 
   -- a judge fills in events
   abbrev pub Fills : Judge → Judge → Type 0

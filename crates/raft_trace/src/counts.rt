@@ -1,7 +1,8 @@
 //! What is counted of a run.
-ghost use Rattle.std.specs.Prelude.{IsTrue};
+ghost use Rattle.std.specs.Prelude.{◌≡◌, ◌⊎◌, [], ℕ, IfOk, IsTrue, OnOk, Some};
 ghost use Rattle.raft_safety.specs.Checker.{event_of as trace_event};
-ghost use Rattle.raft_trace.specs.Line.{IsVote};
+ghost use Rattle.raft_safety.specs.Trace.{Granted};
+ghost use Rattle.raft_trace.specs.Votes.{IsLastVote, vote_of};
 
 use crate::event::Act;
 use raft_safety::event::Event;
@@ -29,7 +30,9 @@ pub struct Counts {
 
 impl Counts {
     /// Returns counts of no event, in a cluster with these configs.
-    pub fn new(alloc: Global, configs: &[Vec<u64>]) -> Result<Counts, AllocError> {
+    pub fn new(alloc: Global, configs: &[Vec<u64>]) -> Result<Counts, AllocError>
+        ensures { IfOk result (λ counts. counts.votes.entries ≡ []) }
+    {
         Ok(Counts {
             voters: voters_of(alloc, configs)?,
             events: 0,
@@ -43,14 +46,17 @@ impl Counts {
 
     /// Whether the event is the last vote of the server, sent again.
     pub fn has_vote(&self, event: &Act) -> bool
-        ensures { IsTrue result → IsVote (trace_event event.now) }
+        ensures { IsTrue result → IsLastVote self.now.votes.entries (trace_event event.now) }
     {
         match event {
             Event::Granted {
                 server,
                 term,
                 candidate,
-            } => self.votes.get(server) == Some(&(*term, *candidate)),
+            } => match self.votes.get(server) {
+                Some(vote) => vote.0 == *term && vote.1 == *candidate,
+                None => false,
+            },
             _ => false,
         }
     }
@@ -60,8 +66,12 @@ impl Counts {
         matches!(event, Event::Applied { .. }) && self.committed_by.is_none()
     }
 
-    /// Counts an event.
-    pub fn note(&mut self, event: &Act) -> Result<(), AllocError> {
+    /// Counts an event. If it is a vote, it is the last one of its server from then on.
+    pub fn note(&mut self, event: &Act) -> Result<(), AllocError>
+        ensures { OnOk result ((s : ℕ) (v : ℕ × ℕ) → vote_of self.new.votes.entries s ≡ Some v →
+            (vote_of self.old.votes.entries s ≡ Some v)
+            ⊎ (trace_event event.now ≡ Granted s v.0 v.1)) }
+    {
         self.events = self.events.saturating_add(1);
         match event {
             Event::Granted {

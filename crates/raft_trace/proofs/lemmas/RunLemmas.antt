@@ -13,6 +13,7 @@ use Rattle.raft_trace.specs.Input.{TakesLine, lines}
 use Rattle.raft_trace.specs.Line.{Says}
 use Rattle.raft_trace.specs.Run.{Fills, FillsIn, GoesOn, HasTaken, IsFilledIn, IsSafeRun, IsStarted, IsTraceOf, Refuses, SafeRun, SaysStart, Takes, TakesAll, TakesEvent, and_lines}
 use Rattle.raft_trace.specs.declared.judge.Judge.{Judge}
+use Rattle.raft_trace.proofs.lemmas.VoteLemmas.{no_votes_in}
 
 -- what holds of each error holds of the one that is returned, if there is one
 pub whatever_err : {T E : Type 0} → (r : Result T E) (P : E → Type 0) → ((e : E) → P e) → IfErr r P
@@ -43,8 +44,9 @@ module _ (tests : Memberships ℕ ℕ → Tests ℕ ℕ ℕ (Option ℕ)) where
   -- a judge that is made has taken no line
   pub started : (line : List ℕ) (judge : Judge) (members : Memberships ℕ ℕ) → configs_of judge.checker ≡ members
       → SaysStart line members.initial.items judge.first → members.held.items ≡ [] → AreExact (tests members)
-      → KeepsEvents (tests members) [] (kept_by judge.checker) → IsStarted tests line judge
-  started line judge members is says none exact keeps = (
+      → KeepsEvents (tests members) [] (kept_by judge.checker) → judge.counts.votes.entries ≡ []
+      → IsStarted tests line judge
+  started line judge members is says none exact keeps no_votes = (
     subst (λ (m : Memberships ℕ ℕ). SaysStart line m.initial.items judge.first) (sym is) says,
     record {
       exact = subst (λ (m : Memberships ℕ ℕ). AreExact (tests m)) (sym is) exact;
@@ -52,6 +54,7 @@ module _ (tests : Memberships ℕ ℕ → Tests ℕ ℕ ℕ (Option ℕ)) where
       is_trace = fills_none [];
       no_changes = ap (λ (m : Memberships ℕ ℕ). m.held.items) is ∙ none;
       keeps = subst (λ (m : Memberships ℕ ℕ). KeepsEvents (tests m) [] (kept_by judge.checker)) (sym is) keeps;
+      votes = no_votes_in judge.counts.votes.entries [] no_votes;
     },
   )
 
@@ -65,6 +68,7 @@ module _ (tests : Memberships ℕ ℕ → Tests ℕ ℕ ℕ (Option ℕ)) where
       is_trace = (has.trace, has.is_trace, (has.trace, inl (is, refl), fills_none has.trace));
       no_changes = has.no_changes;
       keeps = has.keeps;
+      votes = has.votes;
     },
   )
 
@@ -74,7 +78,7 @@ module _ (tests : Memberships ℕ ℕ → Tests ℕ ℕ ℕ (Option ℕ)) where
   takes_event line old new d e reads says taken_event = (
     (ap (λ (m : Memberships ℕ ℕ). m.initial) taken_event.0, taken_event.1),
     λ taken has.
-        let next = taken_event.2 has.exact has.trace has.keeps in
+        let next = taken_event.2 has.exact has.trace has.keeps has.votes in
         let same : tests (configs_of old.checker) ≡ tests (configs_of new.checker) = ap tests (sym taken_event.0) in
         record {
           exact = subst (λ (k : Tests ℕ ℕ ℕ (Option ℕ)). AreExact k) same has.exact;
@@ -86,6 +90,7 @@ module _ (tests : Memberships ℕ ℕ → Tests ℕ ℕ ℕ (Option ℕ)) where
           );
           no_changes = ap (λ (m : Memberships ℕ ℕ). m.held.items) taken_event.0 ∙ has.no_changes;
           keeps = subst (λ (k : Tests ℕ ℕ ℕ (Option ℕ)). KeepsEvents k next.0 (kept_by new.checker)) same next.2;
+          votes = next.3;
         },
   )
 
@@ -94,7 +99,7 @@ module _ (tests : Memberships ℕ ℕ → Tests ℕ ℕ ℕ (Option ℕ)) where
   refuses old new fills = (
     (ap (λ (m : Memberships ℕ ℕ). m.initial) fills.0, fills.1),
     λ taken has.
-        let next = fills.2 has.exact has.trace has.keeps in
+        let next = fills.2 has.exact has.trace has.keeps has.votes in
         let same : tests (configs_of old.checker) ≡ tests (configs_of new.checker) = ap tests (sym fills.0) in
         record {
           exact = subst (λ (k : Tests ℕ ℕ ℕ (Option ℕ)). AreExact k) same has.exact;
@@ -103,12 +108,13 @@ module _ (tests : Memberships ℕ ℕ → Tests ℕ ℕ ℕ (Option ℕ)) where
               (trace_fills old.first taken has.trace next.0 has.is_trace next.1);
           no_changes = ap (λ (m : Memberships ℕ ℕ). m.held.items) fills.0 ∙ has.no_changes;
           keeps = subst (λ (k : Tests ℕ ℕ ℕ (Option ℕ)). KeepsEvents k next.0 (kept_by new.checker)) same next.2;
+          votes = next.3;
         },
   )
 
   -- a line that is refused at once
   pub fills_nothing : (judge : Judge) → Fills tests judge judge
-  fills_nothing judge = (refl, refl, λ exact es keeps. (es, fills_none es, keeps))
+  fills_nothing judge = (refl, refl, λ exact es keeps votes. (es, fills_none es, keeps, votes))
 
   -- what is left of a text, after a judge has taken some of its lines
   abbrev pub HasPassed : Option (List ℕ) → Judge → Option (List ℕ) → Judge → Type 0

@@ -21,4 +21,4 @@ returns c =
     )
     c.new-held.ensures.items
     (c.memberships_are_exact.ensures (λ x y e. eqb-true x y e) (λ x y e. eqb-true x y e) (λ x y e. eqb-true x y e))
-    c.in_ok-checker.ensures.begins
+    c.in_ok-checker.ensures.begins c.in_ok-counts.ensures
