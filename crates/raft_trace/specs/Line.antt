@@ -23,8 +23,9 @@ SaysEntries first d n sent =
     (IsLen (codes "prev") first n d × HasEntries d sent)
     ⊎ ((get (codes "entries") d ≡ None) × (n ≡ 0) × IsLen (codes "index") first (length sent) d)
 
--- a line says an event, where the first entry has this index. It does not say by which config a leader
--- counts, nor which leader has committed what a server applies, nor what the entries of a snapshot are
+-- a line says an event, where the first entry has this index. It does not say which leader has committed
+-- what a server applies, nor what the entries of a snapshot are, and it need not say by which config a
+-- leader counts
 abbrev pub Says : ℕ → Data → TraceEvent ℕ ℕ ℕ → Type 0
 Says first d (Campaigned s t) =
     IsNamed (codes "campaigned") d
@@ -62,6 +63,7 @@ Says first d (Committed c t n m) =
     × (number_in (codes "leader") d ≡ Some c)
     × (number_in (codes "term") d ≡ Some t)
     × IsLen (codes "index") first n d
+    × ((get (codes "counted_at") d ≡ None) ⊎ IsLen (codes "counted_at") first m d)
 Says first d (Applied s t c n) =
     IsNamed (codes "applied") d
     × (number_in (codes "server") d ≡ Some s)

@@ -3,9 +3,10 @@ use Rattle.std.specs.Prelude.{◌≡◌, ◌⊎◌, ℕ, true, List, [], ◌∷�
 use Rattle.std.specs.Global.{Vec}
 use Rattle.std.specs.List.{All}
 use Rattle.serde_json.specs.Data.{Data}
+use Rattle.serde_json.specs.Find.{get}
 use Rattle.serde_json.specs.Read.{read}
 use Rattle.raft_safety.specs.Ranks.{IsAmong}
-use Rattle.raft_safety.specs.Trace.{AreExact, IsSafeTrace, Tests, TraceEvent, Appended, Acked, Committed, are_allowed}
+use Rattle.raft_safety.specs.Trace.{AreExact, IsSafeTrace, Tests, TraceEvent, Appended, Acked, Wrote, Committed, are_allowed}
 use Rattle.raft_safety.specs.Checker.{Keeps, configs_of, kept_by}
 use Rattle.raft_safety.specs.declared.checker.violation.Violation.TheVariants.{Rule as BreaksRule}
 use Rattle.raft_safety.specs.declared.memberships.Memberships.{Memberships}
@@ -13,7 +14,7 @@ use Rattle.raft_trace.specs.Fields.{HasConfigs, IsFirst, IsNamed}
 use Rattle.raft_trace.specs.Input.{lines}
 use Rattle.raft_trace.specs.Line.{IsVote, Says}
 use Rattle.raft_trace.specs.declared.fault.Fault.{Fault}
-use Rattle.raft_trace.specs.declared.fault.Fault.TheVariants.{Refused}
+use Rattle.raft_trace.specs.declared.fault.Fault.TheVariants.{Refused, Skips}
 use Rattle.raft_trace.specs.Votes.{AreVotesIn}
 use Rattle.raft_trace.specs.declared.judge.Judge.{Judge}
 
@@ -21,11 +22,30 @@ use Rattle.raft_trace.specs.declared.judge.Judge.{Judge}
 abbrev pub Adds : TraceEvent ℕ ℕ ℕ → List (TraceEvent ℕ ℕ ℕ) → List (TraceEvent ℕ ℕ ℕ) → Type 0
 Adds e before after = (after ≡ e ∷ before) ⊎ (IsVote e × IsAmong e before × (after ≡ before))
 
--- a trace has the event more that a line says. An empty line says nothing
-abbrev pub AddsLine : ℕ → List ℕ → List (TraceEvent ℕ ℕ ℕ) → List (TraceEvent ℕ ℕ ℕ) → Type 0
-AddsLine first line before after =
-    ((line ≡ []) × (after ≡ before))
-    ⊎ ((d : Data) × (e : TraceEvent ℕ ℕ ℕ) × (read line ≡ Some d) × Says first d e × Adds e before after)
+-- a membership, with the content of the entries that hold it
+abbrev pub Held : Type 0
+Held = ℕ × Vec (Vec ℕ)
+
+-- a line says which membership the entry of its event holds, if it holds one
+abbrev pub SaysMembership : Data → TraceEvent ℕ ℕ ℕ → Option Held → Type 0
+SaysMembership d (Wrote c t e) (Some m) = (m.0 ≡ e.content) × HasConfigs d m.1.items
+SaysMembership d (Wrote c t e) None = get (codes "voters") d ≡ None
+SaysMembership d e (Some m) = ⊥
+SaysMembership d e None = Unit {0}
+
+-- there is this membership more, or it was there before
+abbrev pub AddsMembership : Option Held → List Held → List Held → Type 0
+AddsMembership None before after = after ≡ before
+AddsMembership (Some m) before after = (after ≡ before ++ m ∷ []) ⊎ (IsAmong m before × (after ≡ before))
+
+-- a trace has the event more that a line says, and there is the membership more that its entry holds. An
+-- empty line says nothing
+abbrev pub AddsLine : ℕ → List ℕ → List Held → List (TraceEvent ℕ ℕ ℕ) → List Held → List (TraceEvent ℕ ℕ ℕ)
+    → Type 0
+AddsLine first line known before held after =
+    ((line ≡ []) × (held ≡ known) × (after ≡ before))
+    ⊎ ((d : Data) × (e : TraceEvent ℕ ℕ ℕ) × (m : Option Held) × (read line ≡ Some d) × Says first d e
+    × SaysMembership d e m × AddsMembership m known held × Adds e before after)
 
 -- an event that may be filled in, though no line says it: a server takes or acknowledges entries, or a
 -- leader commits them
@@ -41,12 +61,13 @@ FillsIn before after =
     (filled : List (TraceEvent ℕ ℕ ℕ)) × All IsFilledIn filled × (after ≡ filled ++ before)
 
 -- a trace is what these lines say, in their order, but for votes that it has already, and for events
--- that are filled in at any place. The latest line and the latest event are first
-abbrev pub IsTraceOf : ℕ → List (List ℕ) → List (TraceEvent ℕ ℕ ℕ) → Type 0
-IsTraceOf first [] es = FillsIn [] es
-IsTraceOf first (line ∷ earlier) es =
-    (before : List (TraceEvent ℕ ℕ ℕ)) × IsTraceOf first earlier before
-    × ((after : List (TraceEvent ℕ ℕ ℕ)) × AddsLine first line before after × FillsIn after es)
+-- that are filled in at any place. The memberships are those that lines say. The latest line and the
+-- latest event are first
+abbrev pub IsTraceOf : ℕ → List (List ℕ) → List Held → List (TraceEvent ℕ ℕ ℕ) → Type 0
+IsTraceOf first [] held es = (held ≡ []) × FillsIn [] es
+IsTraceOf first (line ∷ earlier) held es =
+    (known : List Held) × (before : List (TraceEvent ℕ ℕ ℕ)) × IsTraceOf first earlier known before
+    × ((after : List (TraceEvent ℕ ℕ ℕ)) × AddsLine first line known before held after × FillsIn after es)
 
 -- lines after which others come, the latest first
 abbrev pub and_lines : List (List ℕ) → List (List ℕ) → List (List ℕ)
@@ -58,8 +79,9 @@ abbrev pub SaysStart : List ℕ → List (Vec ℕ) → ℕ → Type 0
 SaysStart line configs first =
     (d : Data) × (read line ≡ Some d) × IsNamed (codes "started") d × HasConfigs d configs × IsFirst first d
 
--- a line is refused because it breaks a rule
+-- a line is refused because it breaks a rule, or has not the next index of its leader
 abbrev pub IsBroken : Fault → Type 0
+IsBroken (Skips next) = Unit {0}
 IsBroken (Refused (BreaksRule rule)) = Unit {0}
 IsBroken fault = ⊥
 
@@ -72,9 +94,8 @@ module _ (tests : Memberships ℕ ℕ → Tests ℕ ℕ ℕ (Option ℕ)) where
     pub members : Memberships ℕ ℕ
     pub first : ℕ
     pub starts : SaysStart first_line members.initial.items first
-    pub no_changes : members.held.items ≡ []
     pub trace : List (TraceEvent ℕ ℕ ℕ)
-    pub is_trace : IsTraceOf first (and_lines [] later) trace
+    pub is_trace : IsTraceOf first (and_lines [] later) members.held.items trace
     pub allowed : are_allowed (tests members) trace ≡ true
     pub safe : IsSafeTrace (tests members) trace
 
@@ -83,14 +104,21 @@ module _ (tests : Memberships ℕ ℕ → Tests ℕ ℕ ℕ (Option ℕ)) where
   IsSafeRun None = ⊤
   IsSafeRun (Some text) = SafeRun text
 
+  -- a judge keeps the events of a trace, and remembers votes of it
+  pub record KeepsTrace (judge : Judge) (es : List (TraceEvent ℕ ℕ ℕ)) : Type 0 where
+    pub exact : AreExact (tests (configs_of judge.checker))
+    pub keeps : Keeps (tests (configs_of judge.checker)) es (kept_by judge.checker)
+    pub votes : AreVotesIn judge.counts.votes.entries es
+
+  -- the memberships that a judge knows of entries
+  abbrev pub held_by : Judge → List Held
+  held_by judge = (configs_of judge.checker).held.items
+
   -- a judge has taken these lines, the latest first
   pub record HasTaken (taken : List (List ℕ)) (judge : Judge) : Type 0 where
-    pub exact : AreExact (tests (configs_of judge.checker))
     pub trace : List (TraceEvent ℕ ℕ ℕ)
-    pub is_trace : IsTraceOf judge.first taken trace
-    pub no_changes : (configs_of judge.checker).held.items ≡ []
-    pub keeps : Keeps (tests (configs_of judge.checker)) trace (kept_by judge.checker)
-    pub votes : AreVotesIn judge.counts.votes.entries trace
+    pub is_trace : IsTraceOf judge.first taken (held_by judge) trace
+    pub keeps : KeepsTrace judge trace
 
   -- a judge that has taken no line after the first one
   abbrev pub IsStarted : List ℕ → Judge → Type 0
@@ -112,28 +140,38 @@ module _ (tests : Memberships ℕ ℕ → Tests ℕ ℕ ℕ (Option ℕ)) where
   abbrev pub Refuses : Judge → Judge → Type 0
   Refuses old new = GoesOn old new × ((taken : List (List ℕ)) → HasTaken taken old → HasTaken taken new)
 
-  -- a judge that keeps the events of a trace keeps those of another one, of which this is known
-  abbrev pub KeepsMore : (List (TraceEvent ℕ ℕ ℕ) → List (TraceEvent ℕ ℕ ℕ) → Type 0) → Judge → Judge
+  -- if a judge keeps the events of a trace, it then keeps those of another, which this relates to the
+  -- first, and it knows the membership more, if there is one
+  abbrev pub KeepsMore : (List (TraceEvent ℕ ℕ ℕ) → List (TraceEvent ℕ ℕ ℕ) → Type 0) → Option Held → Judge → Judge
       → Type 0
-  KeepsMore P old new =
-      (configs_of new.checker ≡ configs_of old.checker)
-      × (new.first ≡ old.first)
-      × (AreExact (tests (configs_of old.checker)) → (es : List (TraceEvent ℕ ℕ ℕ))
-      → Keeps (tests (configs_of old.checker)) es (kept_by old.checker)
-      → AreVotesIn old.counts.votes.entries es
+  KeepsMore P m old new =
+      GoesOn old new
+      × ((es : List (TraceEvent ℕ ℕ ℕ)) → KeepsTrace old es
       → (after : List (TraceEvent ℕ ℕ ℕ)) × P es after
-      × Keeps (tests (configs_of old.checker)) after (kept_by new.checker)
-      × AreVotesIn new.counts.votes.entries after)
+      × AddsMembership m (held_by old) (held_by new) × KeepsTrace new after)
+
+  -- a judge keeps the same events
+  abbrev pub Stays : Judge → Judge → Type 0
+  Stays old new = KeepsMore (λ es after. after ≡ es) None old new
 
   -- a judge fills in events
   abbrev pub Fills : Judge → Judge → Type 0
-  Fills old new = KeepsMore FillsIn old new
+  Fills old new = KeepsMore FillsIn None old new
 
-  -- a judge takes one event more, and may fill in others before
-  abbrev pub TakesEvent : TraceEvent ℕ ℕ ℕ → Judge → Judge → Type 0
-  TakesEvent e old new =
-      KeepsMore
-      (λ es after. (before : List (TraceEvent ℕ ℕ ℕ)) × FillsIn es before × Adds e before after) old new
+  -- a judge takes one event more, whose entry holds the membership, if there is one
+  abbrev pub TakesEvent : TraceEvent ℕ ℕ ℕ → Option Held → Judge → Judge → Type 0
+  TakesEvent e m old new = KeepsMore (Adds e) m old new
+
+  -- a judge takes one event more, whose entry holds this membership or an equal one, as a line says it
+  abbrev pub TakesHolding : TraceEvent ℕ ℕ ℕ → Held → Judge → Judge → Type 0
+  TakesHolding e m old new =
+      (d : Data) → SaysMembership d e (Some m)
+      → (n : Held) × SaysMembership d e (Some n) × TakesEvent e (Some n) old new
+
+  -- a judge takes the event that a line says
+  abbrev pub TakesSaid : Data → Judge → Judge → Type 0
+  TakesSaid d old new =
+      (e : TraceEvent ℕ ℕ ℕ) × ((m : Option Held) × Says old.first d e × SaysMembership d e m × TakesEvent e m old new)
 
   -- a judge takes all lines of a text, if it is known
   abbrev pub TakesAll : Option (List ℕ) → Judge → Judge → Type 0

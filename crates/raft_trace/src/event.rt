@@ -6,21 +6,28 @@ ghost use Rattle.serde_json.specs.View.{view};
 ghost use Rattle.raft_trace.specs.Line.{IsTaken, Says};
 
 use crate::field::{entries, event_name, is_named, len, number};
+use raft_safety::checker::Checker;
 use raft_safety::entry::Entry;
 use raft_safety::event::Event;
+use raft_safety::memberships::Memberships;
 use serde_json::Value;
 use std::alloc::{AllocError, Global};
 
 /// An event of a trace.
 pub type Act = Event<u64, u64, u64>;
 
-/// Returns the event that a line says. `first` is the index of the first entry, and `committed_by` the
-/// greatest term of which a leader has committed entries, with this leader.
+/// The checker of a trace.
+pub type Checking = Checker<u64, u64, u64, Memberships<u64, u64>>;
+
+/// Returns the event that a line says. `first` is the index of the first entry, `committed_by` the
+/// greatest term of which a leader has committed entries, with this leader, and `checker` knows what
+/// leaders have written.
 pub fn event_of(
     alloc: Global,
     value: &Value,
     first: u64,
     committed_by: Option<(u64, u64)>,
+    checker: &Checking,
 ) -> Result<Option<Act>, AllocError>
     ensures { IfOk result (λ o. IfSome o (λ e. Says first (view value.now) (trace_event e))) }
 {
@@ -33,7 +40,7 @@ pub fn event_of(
         "acked" => acked(value, first),
         "restarted" => restarted(value, first),
         "wrote" => wrote(value),
-        "committed" => committed(value, first),
+        "committed" => committed(value, first, checker),
         "applied" => applied(value, first, committed_by),
         _ => None,
     })
@@ -145,8 +152,7 @@ fn restarted(value: &Value, first: u64) -> Option<Act>
 fn wrote(value: &Value) -> Option<Act>
     ensures { IfSome result (λ e. (first : ℕ) → Says first (view value.now) (trace_event e)) }
 {
-    // The members do not change yet, so a line with a config is no event.
-    if !is_named(value, "wrote") || value.get("voters").is_some() {
+    if !is_named(value, "wrote") {
         return None;
     }
     let term = number(value, "term")?;
@@ -160,20 +166,27 @@ fn wrote(value: &Value) -> Option<Act>
     })
 }
 
-/// Returns the event that a leader commits entries up to an index. The members do not change, so it
-/// does not matter by which of its entries the leader counted.
-fn committed(value: &Value, first: u64) -> Option<Act>
+/// Returns the event that a leader commits entries up to an index. If the line does not say by which of
+/// its entries the leader counted, it has counted by all that it has written.
+fn committed(value: &Value, first: u64, checker: &Checking) -> Option<Act>
     ensures { IfSome result (λ e. Says first (view value.now) (trace_event e)) }
 {
     if !is_named(value, "committed") {
         return None;
     }
-    let len = len(value, "index", first)?;
+    let leader = number(value, "leader")?;
+    let term = number(value, "term")?;
+    let index_len = len(value, "index", first)?;
+    let counted_at = if value.get("counted_at").is_none() {
+        checker.leader_len(term, leader).unwrap_or(index_len)
+    } else {
+        len(value, "counted_at", first)?
+    };
     Some(Event::Committed {
-        leader: number(value, "leader")?,
-        term: number(value, "term")?,
-        len,
-        counted_at: len,
+        leader,
+        term,
+        len: index_len,
+        counted_at,
     })
 }
 

@@ -1,18 +1,20 @@
 //! Judges the lines of a recorded run.
-ghost use Rattle.std.specs.Prelude.{◌≡◌, IfErr, IfOk, IfSome, IsTrue, OnOk};
-ghost use Rattle.raft_safety.specs.Checker.{event_of as trace_event};
+ghost use Rattle.std.specs.Prelude.{◌≡◌, IfErr, IfOk, IfSome, IsTrue, None, OnOk};
+ghost use Rattle.raft_safety.specs.Checker.{configs_of, event_of as trace_event};
+ghost use Rattle.raft_safety.specs.Ranks.{IsAmong};
 ghost use Rattle.serde_json.specs.View.{view};
 ghost use Rattle.raft_trace.specs.Line.{Says};
 ghost use Rattle.raft_trace.specs.Numbers.{number_tests};
-ghost use Rattle.raft_trace.specs.Run.{Fills, IsBroken, IsSafeRun, IsStarted, Refuses, Takes, TakesAll, TakesEvent};
+ghost use Rattle.raft_trace.specs.Run.{IsBroken, IsSafeRun, IsStarted, Refuses, SaysMembership, Stays, Takes, TakesAll, TakesEvent, TakesHolding, TakesSaid};
 
 use crate::counts::Counts;
-use crate::event::{Act, event_of, installed};
+use crate::event::{Act, Checking, event_of, installed};
 use crate::fault::Fault;
-use crate::field::{configs, first_index, is_named, value_of};
+use crate::field::{configs, first_index, is_named, number, value_of};
+use crate::followed::Followers;
 use crate::input::{open, read_line};
 use crate::text::{push_fault, push_safe};
-use raft_safety::checker::{Checker, Violation};
+use raft_safety::checker::{Checker, LearnError, Violation};
 use raft_safety::event::Event;
 use raft_safety::laws::traces_are_executions;
 use raft_safety::memberships::{Memberships, memberships_are_exact};
@@ -25,11 +27,13 @@ use std::io::{self, BufRead, Read};
 #[derive(Drop)]
 pub struct Judge {
     /// The checker of the events so far.
-    pub checker: Checker<u64, u64, u64, Memberships<u64, u64>>,
+    pub checker: Checking,
     /// The index of the first entry.
     pub first: u64,
     /// What is counted of the events so far.
     pub counts: Counts,
+    /// The leaders that servers have followed.
+    pub followers: Followers,
 }
 
 /// Judges the lines of a reader, and writes the answer.
@@ -115,6 +119,7 @@ fn start(alloc: Global, line: &[u8]) -> Result<Judge, Fault>
         checker,
         first,
         counts,
+        followers: Followers::new(alloc),
     })
 }
 
@@ -137,8 +142,23 @@ impl Judge {
         let Some(value) = value_of(alloc, line)? else {
             return Err(Fault::Malformed);
         };
-        let event = self.event(alloc, &value)?;
-        self.take_event(&event)
+        self.fill_in(alloc, &value)?;
+        self.take_value(alloc, &value)
+    }
+
+    /// Takes the event that the value of a line says.
+    fn take_value(&mut self, alloc: Global, value: &Value) -> Result<(), Fault>
+        ensures taken { OnOk result (TakesSaid number_tests (view value.now) self.old self.new) }
+        ensures broken { IfErr result (λ fault. IsBroken fault →
+            Stays number_tests self.old self.new) }
+    {
+        let event = self.event(alloc, value)?;
+        self.test_index(value, &event)?;
+        self.test_last_term(value, &event)?;
+        match membership(alloc, value, &event)? {
+            Some((content, configs)) => self.take_membership(&event, content, configs),
+            None => self.take_event(&event),
+        }
     }
 
     /// Returns the event that a line says. The entries of a snapshot are those of the leader.
@@ -146,7 +166,13 @@ impl Judge {
         ensures { IfOk result (λ e. Says self.now.first (view value.now) (trace_event e)) }
     {
         let Some((server, term, leader, len)) = installed(value, self.first) else {
-            let event = event_of(alloc, value, self.first, self.counts.committed_by)?;
+            let event = event_of(
+                alloc,
+                value,
+                self.first,
+                self.counts.committed_by,
+                &self.checker,
+            )?;
             return event.ok_or(Fault::Malformed);
         };
         match self.checker.leader_entries(alloc, term, leader, len)? {
@@ -161,12 +187,103 @@ impl Judge {
         }
     }
 
+    /// Tests that an entry has the next index of its leader, if the line says one.
+    fn test_index(&self, value: &Value, event: &Act) -> Result<(), Fault> {
+        let Event::Wrote { leader, term, .. } = event else {
+            return Ok(());
+        };
+        if value.get("index").is_none() {
+            return Ok(());
+        }
+        let Some(index) = number(value, "index") else {
+            return Err(Fault::Malformed);
+        };
+        let Some(len) = self.checker.leader_len(*term, *leader) else {
+            return Ok(());
+        };
+        let next = self.first.saturating_add(len as u64);
+        if index == next {
+            Ok(())
+        } else {
+            Err(Fault::Skips(next))
+        }
+    }
+
+    /// Tests that a server has read an entry from its disk that is in its log, if the line says the
+    /// term of the last one.
+    fn test_last_term(&self, value: &Value, event: &Act) -> Result<(), Fault> {
+        let Event::Restarted { server, len } = event else {
+            return Ok(());
+        };
+        let Some(last_term) = number(value, "last_term") else {
+            return Ok(());
+        };
+        match self.checker.server_entry(*server, *len) {
+            Some(entry) if entry.term != last_term => {
+                Err(Fault::from(Violation::Rule(Rule::ForeignEntries)))
+            }
+            _ => Ok(()),
+        }
+    }
+
+    /// Takes the next event, that a leader writes an entry of a content which holds a membership.
+    fn take_membership(
+        &mut self,
+        event: &Act,
+        content: u64,
+        configs: Vec<Vec<u64>>,
+    ) -> Result<(), Fault>
+        ensures taken { OnOk result (TakesHolding number_tests (trace_event event.now)
+            (content, configs) self.old self.new) }
+        ensures broken { IfErr result (λ fault. IsBroken fault →
+            Stays number_tests self.old self.new) }
+    {
+        match held_by(&self.checker, content) {
+            Some(held) => {
+                if *held != configs {
+                    return Err(Fault::Malformed);
+                }
+                self.take_event(event)
+            }
+            None => self.take_new_membership(event, content, configs),
+        }
+    }
+
+    /// Takes the next event, that a leader writes an entry of a content which holds a membership. None
+    /// is known of this content.
+    fn take_new_membership(
+        &mut self,
+        event: &Act,
+        content: u64,
+        configs: Vec<Vec<u64>>,
+    ) -> Result<(), Fault>
+        ensures taken { OnOk result (TakesHolding number_tests (trace_event event.now)
+            (content, configs) self.old self.new) }
+        ensures broken { IfErr result (λ fault. IsBroken fault →
+            Stays number_tests self.old self.new) }
+    {
+        match self.checker.learn(content, configs) {
+            Ok(()) => {}
+            Err(LearnError::OutOfMemory) => return Err(Fault::from(Violation::OutOfMemory)),
+            Err(_) => return Err(Fault::Malformed),
+        }
+        memberships_are_exact::<u64, u64, u64>(self.checker.configs());
+        match self.take_event(event) {
+            Ok(()) => Ok(()),
+            Err(fault) => {
+                self.checker.forget();
+                memberships_are_exact::<u64, u64, u64>(self.checker.configs());
+                Err(fault)
+            }
+        }
+    }
+
     /// Takes the next event.
     fn take_event(&mut self, event: &Act) -> Result<(), Fault>
         ensures taken { OnOk result
-            (TakesEvent number_tests (trace_event event.now) self.old self.new) }
+            (TakesEvent number_tests (trace_event event.now) None self.old self.new) }
         ensures broken { IfErr result (λ fault. IsBroken fault →
-            Fills number_tests self.old self.new) }
+            Stays number_tests self.old self.new) }
     {
         if self.counts.has_vote(event) {
             self.counts.left_out = self.counts.left_out.saturating_add(1);
@@ -177,6 +294,40 @@ impl Judge {
         }
         self.checker.record(event)?;
         self.counts.note(event)?;
+        self.followers.note_event(event)?;
         Ok(())
     }
+}
+
+/// Returns the membership that the entry of an event holds, and the content of the entry, if the line
+/// says one.
+fn membership(
+    alloc: Global,
+    value: &Value,
+    event: &Act,
+) -> Result<Option<(u64, Vec<Vec<u64>>)>, Fault>
+    ensures { IfOk result (λ m. SaysMembership (view value.now) (trace_event event.now) m) }
+{
+    let Event::Wrote { entry, .. } = event else {
+        return Ok(None);
+    };
+    if value.get("voters").is_none() {
+        return Ok(None);
+    }
+    match configs(alloc, value)? {
+        Some(configs) => Ok(Some((entry.content, configs))),
+        None => Err(Fault::Malformed),
+    }
+}
+
+/// Returns the membership that entries of a content hold, if it is known.
+fn held_by(checker: &Checking, content: u64) -> Option<&Vec<Vec<u64>>>
+    ensures { IfSome result (λ v. IsAmong (content, v.now) (configs_of checker.now).held.items) }
+{
+    for membership in &checker.configs().held {
+        if membership.0 == content {
+            return Some(&membership.1);
+        }
+    }
+    None
 }

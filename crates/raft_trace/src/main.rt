@@ -5,6 +5,8 @@ mod counts;
 mod event;
 mod fault;
 mod field;
+mod fill;
+mod followed;
 mod input;
 mod judge;
 #[cfg(test)]

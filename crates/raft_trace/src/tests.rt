@@ -21,12 +21,12 @@ const ROWS: [(&str, u8, &str); 17] = [
     (
         "",
         0,
-        "safe: 7 events, 3 voters, 1 terms with a leader, 0 committed, 0 votes sent again\n",
+        "safe: 7 events, 3 servers, 1 terms with a leader, 0 committed, 0 votes sent again\n",
     ),
     (
         r#"{"event":"granted","server":2,"term":1,"candidate":1}"#,
         0,
-        "safe: 7 events, 3 voters, 1 terms with a leader, 0 committed, 1 votes sent again\n",
+        "safe: 7 events, 3 servers, 1 terms with a leader, 0 committed, 1 votes sent again\n",
     ),
     (
         r#"{"event":"granted","server":2,"term":1,"candidate":3}"#,
@@ -50,7 +50,7 @@ const ROWS: [(&str, u8, &str); 17] = [
 
 {"event":"applied","server":2,"index":2}"#,
         0,
-        "safe: 10 events, 3 voters, 1 terms with a leader, 1 committed, 0 votes sent again\n",
+        "safe: 10 events, 3 servers, 1 terms with a leader, 1 committed, 0 votes sent again\n",
     ),
     (
         r#"{"event":"restarted","server":1,"index":1}"#,
@@ -74,8 +74,9 @@ const ROWS: [(&str, u8, &str); 17] = [
     ),
     (
         r#"{"event":"wrote","leader":1,"term":1,"index":3,"content":8,"voters":[[1,2]]}"#,
-        2,
-        "line 9: `wrote` needs the numbers `leader`, `term` and `content`, and no `voters`\n",
+        1,
+        "line 9: leader 1 writes an entry in term 1: the leader has not committed an own entry and the \
+            config in effect\n",
     ),
     (
         r#"{"event":"appended","server":3,"term":2,"leader":3,"index":1}"#,
@@ -88,7 +89,7 @@ const ROWS: [(&str, u8, &str); 17] = [
 {"event":"acked","server":2,"term":1,"leader":1,"index":2}
 {"event":"committed","leader":1,"term":1,"index":2}"#,
         0,
-        "safe: 10 events, 3 voters, 1 terms with a leader, 1 committed, 0 votes sent again\n",
+        "safe: 10 events, 3 servers, 1 terms with a leader, 1 committed, 0 votes sent again\n",
     ),
     (
         r#"{"event":"appended","server":2,"term":1,"leader":1,"index":3}"#,

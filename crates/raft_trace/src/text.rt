@@ -12,9 +12,9 @@ use std::alloc::{AllocError, Global};
 pub fn push_safe(answer: &mut String, counts: &Counts) -> Result<(), AllocError> {
     writeln!(
         answer,
-        "safe: {} events, {} voters, {} terms with a leader, {} committed, {} votes sent again",
+        "safe: {} events, {} servers, {} terms with a leader, {} committed, {} votes sent again",
         counts.events,
-        counts.voters.len(),
+        counts.servers.len(),
         counts.terms.len(),
         counts.committed,
         counts.left_out
@@ -38,6 +38,11 @@ pub fn push_fault(
         Fault::Malformed => {
             writeln!(answer, "{}", reason(number, &value))?;
             Ok(2)
+        }
+        Fault::Skips(next) => {
+            push_event(answer, &value)?;
+            writeln!(answer, ": the next index of the leader is {next}")?;
+            Ok(1)
         }
         Fault::Refused(Violation::OutOfMemory) => {
             writeln!(answer, "out of memory")?;

@@ -1,24 +1,83 @@
 -- Lines that a judge takes.
-use Rattle.std.specs.Prelude.{◌≡◌, ℕ, Bool, true, false, List, [], ◌∷◌, ◌++◌, Option, Some, None, Result, Ok, Err, IfErr, ⊤}
-use Rattle.std.proofs.Common.{refl, sym, ap, subst, ◌∙◌, inl, inr, append_assoc}
-use Rattle.std.proofs.lemmas.List.Elements.{All-append, All-nil}
+use Rattle.std.specs.Prelude.{◌≡◌, ◌<◌, ℕ, length, get_or, Bool, true, false, List, [], ◌∷◌, ◌++◌, Option, Some, None, Result, Ok, Err, IfErr, ⊤}
+use Rattle.std.proofs.Common.{refl, sym, ap, subst, ◌∙◌, inl, inr, append_assoc, arith, zero, suc}
+use Rattle.std.proofs.lemmas.List.Elements.{All-append, All-cons, All-nil}
 use Rattle.std.specs.Global.{Vec}
 use Rattle.std.specs.Io.KnownBytes.{Keeps}
 use Rattle.serde_json.specs.Data.{Data}
 use Rattle.serde_json.specs.Read.{read}
-use Rattle.raft_safety.specs.Trace.{AreExact, Tests, TracesAreExecutions, TraceEvent}
-use Rattle.raft_safety.specs.Checker.{Keeps as KeepsEvents, configs_of, kept_by}
+use Rattle.raft_safety.specs.Trace.{
+  AreExact,
+  Tests,
+  TracesAreExecutions,
+  TraceEvent,
+  Campaigned,
+  Granted,
+  Appended,
+  Acked,
+  Restarted,
+  Wrote,
+  Committed,
+  Applied,
+}
+use Rattle.raft_safety.specs.Checker.{IsUnused, Keeps as KeepsEvents, KeepsAlso, OfAll, configs_of, kept_by}
+use Rattle.raft_safety.specs.Ranks.{IsAmong}
 use Rattle.raft_safety.specs.declared.memberships.Memberships.{Memberships}
+use Rattle.raft_trace.specs.Fields.{HasConfigs}
 use Rattle.raft_trace.specs.Input.{TakesLine, lines}
 use Rattle.raft_trace.specs.Line.{Says}
-use Rattle.raft_trace.specs.Run.{Fills, FillsIn, GoesOn, HasTaken, IsFilledIn, IsSafeRun, IsStarted, IsTraceOf, Refuses, SafeRun, SaysStart, Takes, TakesAll, TakesEvent, and_lines}
+use Rattle.raft_trace.specs.Run.{
+  AddsLine,
+  Fills,
+  FillsIn,
+  GoesOn,
+  HasTaken,
+  Held,
+  IsFilledIn,
+  IsSafeRun,
+  IsStarted,
+  IsTraceOf,
+  KeepsMore,
+  KeepsTrace,
+  Refuses,
+  SafeRun,
+  SaysMembership,
+  SaysStart,
+  Stays,
+  Takes,
+  TakesAll,
+  TakesEvent,
+  TakesSaid,
+  and_lines,
+  held_by,
+}
+use Rattle.raft_trace.specs.declared.counts.Counts.{Counts}
 use Rattle.raft_trace.specs.declared.judge.Judge.{Judge}
+use Rattle.raft_trace.specs.Votes.{AreVotesIn}
 use Rattle.raft_trace.proofs.lemmas.VoteLemmas.{no_votes_in}
 
 -- what holds of each error holds of the one that is returned, if there is one
 pub whatever_err : {T E : Type 0} → (r : Result T E) (P : E → Type 0) → ((e : E) → P e) → IfErr r P
 whatever_err (Ok x) P h = tt
 whatever_err (Err e) P h = h e
+
+-- an item of a list is among them
+pub among_at : {X : Type 0} (xs : List X) (i : ℕ) (x : X) → i < length xs → x ≡ get_or xs i x → IsAmong x xs
+among_at [] i x within is = absurd (omega arith)
+among_at (y ∷ ys) zero x within is = inl is
+among_at (y ∷ ys) (suc i) x within is = inr (among_at ys i x (omega arith) is)
+
+-- a line says a membership if it says an equal one
+pub says_same : (d : Data) (e : TraceEvent ℕ ℕ ℕ) (n : ℕ) (a b : Vec (Vec ℕ)) → (HasConfigs d b.items → HasConfigs d a.items)
+    → SaysMembership d e (Some (n, b)) → SaysMembership d e (Some (n, a))
+says_same d (Campaigned s t) n a b same says = says
+says_same d (Granted s t c) n a b same says = says
+says_same d (Appended s t c m sent) n a b same says = says
+says_same d (Acked s t c m) n a b same says = says
+says_same d (Restarted s m) n a b same says = says
+says_same d (Wrote c t e) n a b same says = (says.0, same says.1)
+says_same d (Committed c t m k) n a b same says = says
+says_same d (Applied s t c m) n a b same says = says
 
 -- ---- events that are filled in
 
@@ -33,12 +92,21 @@ fills_more before es after one two = (
   two.2 ∙ ap (λ (l : List (TraceEvent ℕ ℕ ℕ)). two.0 ++ l) one.2 ∙ sym (append_assoc two.0 one.0 before),
 )
 
+pub fills_one : (e : TraceEvent ℕ ℕ ℕ) (es : List (TraceEvent ℕ ℕ ℕ)) → IsFilledIn e → FillsIn es (e ∷ es)
+fills_one e es may = (e ∷ [], All-cons IsFilledIn e [] may (All-nil IsFilledIn), refl)
+
 -- events that are filled in after a trace of lines are part of a trace of these lines
-pub trace_fills : (first : ℕ) (taken : List (List ℕ)) (es after : List (TraceEvent ℕ ℕ ℕ))
-    → IsTraceOf first taken es → FillsIn es after → IsTraceOf first taken after
-trace_fills first [] es after is fills = fills_more [] es after is fills
-trace_fills first (line ∷ taken) es after is fills =
-    (is.0, is.1, (is.2.0, is.2.1, fills_more is.2.0 es after is.2.2 fills))
+pub trace_fills : (first : ℕ) (taken : List (List ℕ)) (held : List Held) (es after : List (TraceEvent ℕ ℕ ℕ))
+    → IsTraceOf first taken held es → FillsIn es after → IsTraceOf first taken held after
+trace_fills first [] held es after is fills = (is.0, fills_more [] es after is.1 fills)
+trace_fills first (line ∷ taken) held es after is fills =
+    (is.0, is.1, is.2, (is.3.0, is.3.1, fills_more is.3.0 es after is.3.2 fills))
+
+-- votes that are in a trace are in it once events are filled in
+pub votes_filled : (votes : List (ℕ × (ℕ × ℕ))) (filled es : List (TraceEvent ℕ ℕ ℕ)) → AreVotesIn votes es
+    → AreVotesIn votes (filled ++ es)
+votes_filled votes [] es are = are
+votes_filled votes (e ∷ filled) es are = λ s v is. inr (votes_filled votes filled es are s v is)
 
 module _ (tests : Memberships ℕ ℕ → Tests ℕ ℕ ℕ (Option ℕ)) where
   -- a judge that is made has taken no line
@@ -49,12 +117,13 @@ module _ (tests : Memberships ℕ ℕ → Tests ℕ ℕ ℕ (Option ℕ)) where
   started line judge members is says none exact keeps no_votes = (
     subst (λ (m : Memberships ℕ ℕ). SaysStart line m.initial.items judge.first) (sym is) says,
     record {
-      exact = subst (λ (m : Memberships ℕ ℕ). AreExact (tests m)) (sym is) exact;
       trace = [];
-      is_trace = fills_none [];
-      no_changes = ap (λ (m : Memberships ℕ ℕ). m.held.items) is ∙ none;
-      keeps = subst (λ (m : Memberships ℕ ℕ). KeepsEvents (tests m) [] (kept_by judge.checker)) (sym is) keeps;
-      votes = no_votes_in judge.counts.votes.entries [] no_votes;
+      is_trace = (ap (λ (m : Memberships ℕ ℕ). m.held.items) is ∙ none, fills_none []);
+      keeps = record {
+        exact = subst (λ (m : Memberships ℕ ℕ). AreExact (tests m)) (sym is) exact;
+        keeps = subst (λ (m : Memberships ℕ ℕ). KeepsEvents (tests m) [] (kept_by judge.checker)) (sym is) keeps;
+        votes = no_votes_in judge.counts.votes.entries [] no_votes;
+      };
     },
   )
 
@@ -63,58 +132,172 @@ module _ (tests : Memberships ℕ ℕ → Tests ℕ ℕ ℕ (Option ℕ)) where
   takes_empty line judge is = (
     (refl, refl),
     λ taken has. record {
-      exact = has.exact;
       trace = has.trace;
-      is_trace = (has.trace, has.is_trace, (has.trace, inl (is, refl), fills_none has.trace));
-      no_changes = has.no_changes;
+      is_trace = (held_by tests judge, has.trace, has.is_trace, (has.trace, inl (is, refl, refl), fills_none has.trace));
       keeps = has.keeps;
-      votes = has.votes;
     },
   )
 
-  -- a line is taken by taking the event that it says
-  pub takes_event : (line : List ℕ) (old new : Judge) (d : Data) (e : TraceEvent ℕ ℕ ℕ) → read line ≡ Some d
-      → Says old.first d e → TakesEvent tests e old new → Takes tests line old new
-  takes_event line old new d e reads says taken_event = (
-    (ap (λ (m : Memberships ℕ ℕ). m.initial) taken_event.0, taken_event.1),
-    λ taken has.
-        let next = taken_event.2 has.exact has.trace has.keeps has.votes in
-        let same : tests (configs_of old.checker) ≡ tests (configs_of new.checker) = ap tests (sym taken_event.0) in
-        record {
-          exact = subst (λ (k : Tests ℕ ℕ ℕ (Option ℕ)). AreExact k) same has.exact;
-          trace = next.0;
-          is_trace = subst (λ (n : ℕ). IsTraceOf n (line ∷ taken) next.0) (sym taken_event.1) (
-            next.1.0,
-            trace_fills old.first taken has.trace next.1.0 has.is_trace next.1.1,
-            (next.0, inr (d, e, reads, says, next.1.2), fills_none next.0),
-          );
-          no_changes = ap (λ (m : Memberships ℕ ℕ). m.held.items) taken_event.0 ∙ has.no_changes;
-          keeps = subst (λ (k : Tests ℕ ℕ ℕ (Option ℕ)). KeepsEvents k next.0 (kept_by new.checker)) same next.2;
-          votes = next.3;
-        },
+  -- ---- one step after the other
+
+  pub goes_on : (old mid new : Judge) → GoesOn tests old mid → GoesOn tests mid new → GoesOn tests old new
+  goes_on old mid new one two = (two.0 ∙ one.0, two.1 ∙ one.1)
+
+  pub fills_nothing : (judge : Judge) → Fills tests judge judge
+  fills_nothing judge = ((refl, refl), λ es keeps. (es, fills_none es, refl, keeps))
+
+  pub fills_both : (old mid new : Judge) → Fills tests old mid → Fills tests mid new → Fills tests old new
+  fills_both old mid new one two = (
+    goes_on old mid new one.0 two.0,
+    λ es keeps.
+        let first = one.1 es keeps in
+        let next = two.1 first.0 first.3 in
+        (next.0, fills_more es first.0 next.0 first.1 next.1, next.2 ∙ first.2, next.3),
   )
 
-  -- a line is refused: events may have been filled in
+  pub fills_stays : (old mid new : Judge) → Fills tests old mid → Stays tests mid new → Fills tests old new
+  fills_stays old mid new one two = (
+    goes_on old mid new one.0 two.0,
+    λ es keeps.
+        let first = one.1 es keeps in
+        let next = two.1 first.0 first.3 in (
+          next.0,
+          subst (λ (l : List (TraceEvent ℕ ℕ ℕ)). FillsIn es l) (sym next.1) first.1,
+          next.2 ∙ first.2,
+          next.3,
+        ),
+  )
+
+  -- a line is refused, once events are filled in
   pub refuses : (old new : Judge) → Fills tests old new → Refuses tests old new
   refuses old new fills = (
-    (ap (λ (m : Memberships ℕ ℕ). m.initial) fills.0, fills.1),
+    fills.0,
     λ taken has.
-        let next = fills.2 has.exact has.trace has.keeps has.votes in
-        let same : tests (configs_of old.checker) ≡ tests (configs_of new.checker) = ap tests (sym fills.0) in
+        let next = fills.1 has.trace has.keeps in
         record {
-          exact = subst (λ (k : Tests ℕ ℕ ℕ (Option ℕ)). AreExact k) same has.exact;
           trace = next.0;
-          is_trace = subst (λ (n : ℕ). IsTraceOf n taken next.0) (sym fills.1)
-              (trace_fills old.first taken has.trace next.0 has.is_trace next.1);
-          no_changes = ap (λ (m : Memberships ℕ ℕ). m.held.items) fills.0 ∙ has.no_changes;
-          keeps = subst (λ (k : Tests ℕ ℕ ℕ (Option ℕ)). KeepsEvents k next.0 (kept_by new.checker)) same next.2;
-          votes = next.3;
+          is_trace = rw (fills.0.1, next.2) (trace_fills old.first taken (held_by tests old) has.trace next.0 has.is_trace next.1);
+          keeps = next.3;
         },
   )
 
-  -- a line that is refused at once
-  pub fills_nothing : (judge : Judge) → Fills tests judge judge
-  fills_nothing judge = (refl, refl, λ exact es keeps votes. (es, fills_none es, keeps, votes))
+  pub stays_still : (judge : Judge) → Stays tests judge judge
+  stays_still judge = ((refl, refl), λ es keeps. (es, refl, refl, keeps))
+
+  takes_event : (line : List ℕ) (old mid new : Judge) (d : Data) (e : TraceEvent ℕ ℕ ℕ) (m : Option Held)
+      → Fills tests old mid → read line ≡ Some d → Says mid.first d e → SaysMembership d e m → TakesEvent tests e m mid new
+      → Takes tests line old new
+  takes_event line old mid new d e m fills reads says holds takes = (
+    goes_on old mid new fills.0 takes.0,
+    λ taken has.
+        let before = fills.1 has.trace has.keeps in
+        let next = takes.1 before.0 before.3 in
+        let so_far : IsTraceOf mid.first taken (held_by tests mid) before.0 =
+        rw (fills.0.1, before.2) (trace_fills old.first taken (held_by tests old) has.trace before.0 has.is_trace before.1) in
+        let added : AddsLine mid.first line (held_by tests mid) before.0 (held_by tests new) next.0 =
+        inr (d, e, m, reads, says, holds, next.2, next.1) in
+        record {
+          trace = next.0;
+          is_trace = subst (λ (n : ℕ). IsTraceOf n (line ∷ taken) (held_by tests new) next.0) (sym takes.0.1)
+              (held_by tests mid, before.0, so_far, (next.0, added, fills_none next.0));
+          keeps = next.3;
+        },
+  )
+
+  -- a line is taken by taking the event that it says, once events are filled in
+  pub takes_line : (line : List ℕ) (old mid new : Judge) (d : Data) → Fills tests old mid → read line ≡ Some d
+      → TakesSaid tests d mid new → Takes tests line old new
+  takes_line line old mid new d fills reads said =
+      takes_event line old mid new d said.0 said.1.0 fills reads said.1.1 said.1.2 said.1.3
+
+  -- ---- events that the checker is asked for
+
+  -- what a checker keeps by memberships, a judge keeps that has these
+  pub keeps_on : (old new : Judge) (es : List (TraceEvent ℕ ℕ ℕ)) → configs_of new.checker ≡ configs_of old.checker
+      → AreExact (tests (configs_of old.checker))
+      → KeepsEvents (tests (configs_of old.checker)) es (kept_by new.checker)
+      → AreVotesIn new.counts.votes.entries es → KeepsTrace tests new es
+  keeps_on old new es same exact keeps votes = record {
+    exact = subst (λ (m : Memberships ℕ ℕ). AreExact (tests m)) (sym same) exact;
+    keeps = subst (λ (m : Memberships ℕ ℕ). KeepsEvents (tests m) es (kept_by new.checker)) (sym same) keeps;
+    votes = votes;
+  }
+
+  -- a judge that knows the same memberships, and keeps the events of another trace
+  pub keeps_more : (P : List (TraceEvent ℕ ℕ ℕ) → List (TraceEvent ℕ ℕ ℕ) → Type 0) (old new : Judge)
+      → configs_of new.checker ≡ configs_of old.checker → new.first ≡ old.first
+      → ((es : List (TraceEvent ℕ ℕ ℕ)) → KeepsTrace tests old es
+      → (after : List (TraceEvent ℕ ℕ ℕ)) × P es after
+      × KeepsEvents (tests (configs_of old.checker)) after (kept_by new.checker)
+      × AreVotesIn new.counts.votes.entries after)
+      → KeepsMore tests P None old new
+  keeps_more P old new same first more = (
+    (ap (λ (m : Memberships ℕ ℕ). m.initial) same, first),
+    λ es keeps.
+        let next = more es keeps in (
+          next.0,
+          next.1,
+          ap (λ (m : Memberships ℕ ℕ). m.held.items) same,
+          keeps_on old new next.0 same keeps.exact next.2 next.3,
+        ),
+  )
+
+  -- ---- memberships that become known
+
+  -- what a judge keeps, it keeps by other memberships
+  keeps_also : (old new : Judge) (es : List (TraceEvent ℕ ℕ ℕ))
+      → KeepsAlso (tests (configs_of old.checker)) (tests (configs_of new.checker)) (kept_by old.checker) (kept_by new.checker)
+      → new.counts ≡ old.counts → AreExact (tests (configs_of new.checker)) → KeepsTrace tests old es → KeepsTrace tests new es
+  keeps_also old new es also same exact keeps = record {
+    exact = exact;
+    keeps = also keeps.exact es keeps.keeps;
+    votes = subst (λ (c : Counts). AreVotesIn c.votes.entries es) (sym same) keeps.votes;
+  }
+
+  -- a judge learns a membership before it takes the event whose entry holds it
+  pub takes_new : (old mid new : Judge) (e : TraceEvent ℕ ℕ ℕ) (m : Held) → GoesOn tests old mid
+      → held_by tests mid ≡ held_by tests old ++ m ∷ []
+      → KeepsAlso (tests (configs_of old.checker)) (tests (configs_of mid.checker)) (kept_by old.checker) (kept_by mid.checker)
+      → mid.counts ≡ old.counts → AreExact (tests (configs_of mid.checker)) → TakesEvent tests e None mid new
+      → TakesEvent tests e (Some m) old new
+  takes_new old mid new e m goes learned also same exact takes = (
+    goes_on old mid new goes takes.0,
+    λ es keeps.
+        let next = takes.1 es (keeps_also old mid es also same exact keeps) in
+        (next.0, next.1, inl (next.2 ∙ learned), next.3),
+  )
+
+  -- a judge learns a membership, refuses the event whose entry holds it, and forgets the membership
+  pub stays_new : (same : ℕ → ℕ → Bool) (old mid refused new : Judge) (m : Held) → GoesOn tests old mid
+      → held_by tests mid ≡ held_by tests old ++ m ∷ []
+      → KeepsAlso (tests (configs_of old.checker)) (tests (configs_of mid.checker)) (kept_by old.checker) (kept_by mid.checker)
+      → OfAll (tests (configs_of old.checker)) (kept_by old.checker) (λ es. IsUnused same m.0 es)
+      → mid.counts ≡ old.counts → AreExact (tests (configs_of mid.checker)) → Stays tests mid refused
+      → GoesOn tests refused new
+      → KeepsAlso (tests (configs_of refused.checker)) (tests (configs_of new.checker)) (kept_by refused.checker)
+      (kept_by new.checker)
+      → ((before : List Held) (n : Held) → held_by tests refused ≡ before ++ n ∷ []
+      → OfAll (tests (configs_of refused.checker)) (kept_by refused.checker) (λ es. IsUnused same n.0 es → held_by tests new ≡ before))
+      → new.counts ≡ refused.counts → AreExact (tests (configs_of new.checker)) → Stays tests old new
+  stays_new same old mid refused new m goes learned also unused same_mid exact stays back forgets forgotten same_new exact_new = (
+    goes_on old refused new (goes_on old mid refused goes stays.0) back,
+    λ es keeps.
+        let next = stays.1 es (keeps_also old mid es also same_mid exact keeps) in
+        let still : IsUnused same m.0 next.0 = rw next.1 (unused keeps.exact es keeps.keeps) in (
+          next.0,
+          next.1,
+          forgotten (held_by tests old) m (next.2 ∙ learned) next.3.exact next.0 next.3.keeps still,
+          keeps_also refused new next.0 forgets same_new exact_new next.3,
+        ),
+  )
+
+  -- an entry holds a membership that is known by its content already
+  pub takes_known : (old new : Judge) (e : TraceEvent ℕ ℕ ℕ) (m : Held) → IsAmong m (held_by tests old)
+      → TakesEvent tests e None old new → TakesEvent tests e (Some m) old new
+  takes_known old new e m is takes = (
+    takes.0,
+    λ es keeps. let next = takes.1 es keeps in (next.0, next.1, inr (is, next.2), next.3),
+  )
 
   -- what is left of a text, after a judge has taken some of its lines
   abbrev pub HasPassed : Option (List ℕ) → Judge → Option (List ℕ) → Judge → Type 0
@@ -180,12 +363,11 @@ module _ (tests : Memberships ℕ ℕ → Tests ℕ ℕ ℕ (Option ℕ)) where
         members = configs_of new.checker;
         first = new.first;
         starts = starts;
-        no_changes = has.no_changes;
         trace = has.trace;
         is_trace = has.is_trace;
-        allowed = has.keeps.seen.allowed;
-        safe = law (tests (configs_of new.checker)) has.exact has.trace
-            (λ t u in_t in_u e. ranks (configs_of new.checker) t u e) has.keeps.seen.allowed;
+        allowed = has.keeps.keeps.seen.allowed;
+        safe = law (tests (configs_of new.checker)) has.keeps.exact has.trace
+            (λ t u in_t in_u e. ranks (configs_of new.checker) t u e) has.keeps.keeps.seen.allowed;
       }
 
   -- the first line is the only one
