@@ -2,3 +2,5 @@ pub mod InputLemmas
 pub mod FieldLemmas
 pub mod RunLemmas
 pub mod VoteLemmas
+pub mod ListLemmas
+pub mod StartLemmas

@@ -4,3 +4,4 @@ pub mod Line
 pub mod Numbers
 pub mod Run
 pub mod Votes
+pub mod Lists

@@ -4,22 +4,19 @@ ghost use Rattle.raft_safety.specs.Checker.{event_of as trace_event};
 ghost use Rattle.serde_json.specs.View.{view};
 ghost use Rattle.raft_trace.specs.Line.{Says};
 ghost use Rattle.raft_trace.specs.Numbers.{number_tests};
-ghost use Rattle.raft_trace.specs.Run.{Fills, IsBroken, IsSafeRun, IsStarted, Refuses, Takes, TakesAll, TakesEvent};
+ghost use Rattle.raft_trace.specs.Run.{Fills, IsBroken, IsStarted, Refuses, Takes, TakesEvent};
 
 use crate::counts::Counts;
 use crate::event::{Act, event_of, installed};
 use crate::fault::Fault;
-use crate::field::{configs, first_index, is_named, value_of};
-use crate::input::{open, read_line};
-use crate::text::{push_fault, push_safe};
+use crate::field::value_of;
+use crate::start::start_of;
 use raft_safety::checker::{Checker, Violation};
 use raft_safety::event::Event;
-use raft_safety::laws::traces_are_executions;
 use raft_safety::memberships::{Memberships, memberships_are_exact};
 use raft_safety::rule::Rule;
 use serde_json::Value;
 use std::alloc::Global;
-use std::io::{self, BufRead, Read};
 
 /// Judges one line after the other.
 #[derive(Drop)]
@@ -32,78 +29,11 @@ pub struct Judge {
     pub counts: Counts,
 }
 
-/// Judges the lines of a reader, and writes the answer.
-///
-/// Returns the exit status: 0 if the run is safe, 1 if a line breaks a rule, 2 if a line is no event,
-/// and 3 after an error of the input, or if there is no memory for an event.
-pub fn run<R: Read + Drop>(alloc: Global, reader: R, answer: &mut String) -> u8
-    ensures { result ≡ 0 → IsSafeRun number_tests (R.remaining reader) }
-{
-    match judge_lines(alloc, reader, answer) {
-        Ok(status) => status,
-        Err(_) => 3,
-    }
-}
-
-/// Judges the lines of a reader, of which the first one says how the cluster starts.
-fn judge_lines<R: Read + Drop>(alloc: Global, reader: R, answer: &mut String) -> io::Result<u8>
-    ensures { IfOk result (λ status. status ≡ 0 → IsSafeRun number_tests (R.remaining reader)) }
-{
-    let mut input = open(alloc, reader)?;
-    let mut line = Vec::new(alloc);
-    let is_last = read_line(&mut input, &mut line)?;
-    traces_are_executions::<u64, u64, u64, Option<u64>>();
-    match start(alloc, &line) {
-        Ok(mut judge) => {
-            if is_last {
-                push_safe(answer, &judge.counts)?;
-                return Ok(0);
-            }
-            judge_rest(alloc, &mut input, &mut judge, answer)
-        }
-        Err(fault) => Ok(push_fault(alloc, answer, 1, &line, fault)?),
-    }
-}
-
-/// Judges the lines after the first one.
-fn judge_rest<B: BufRead>(
-    alloc: Global,
-    input: &mut B,
-    judge: &mut Judge,
-    answer: &mut String,
-) -> io::Result<u8>
-    ensures { IfOk result (λ status. status ≡ 0 →
-        TakesAll number_tests (B.remaining input.old) judge.old judge.new) }
-{
-    let mut line = Vec::new(alloc);
-    for number in 2..u64::MAX {
-        let is_last = read_line(input, &mut line)?;
-        match judge.take(alloc, &line) {
-            Ok(()) => {}
-            Err(fault) => return Ok(push_fault(alloc, answer, number, &line, fault)?),
-        }
-        if is_last {
-            push_safe(answer, &judge.counts)?;
-            return Ok(0);
-        }
-    }
-    Ok(3)
-}
-
 /// Returns the judge of a cluster that starts as the line says.
-fn start(alloc: Global, line: &[u8]) -> Result<Judge, Fault>
+pub fn start(alloc: Global, line: &[u8]) -> Result<Judge, Fault>
     ensures { IfOk result (λ j. IsStarted number_tests line.now j) }
 {
-    let Some(value) = value_of(alloc, line)? else {
-        return Err(Fault::Malformed);
-    };
-    if !is_named(&value, "started") {
-        return Err(Fault::Malformed);
-    }
-    let Some(first) = first_index(&value) else {
-        return Err(Fault::Malformed);
-    };
-    let Some(initial) = configs(alloc, &value)? else {
+    let Some((initial, first)) = start_of(alloc, line)? else {
         return Err(Fault::Malformed);
     };
     let counts = Counts::new(alloc, &initial)?;
