@@ -47,7 +47,7 @@ begin() { printf 'init 0 1 -\nupdate 1 5\n'; }
 trace() { timeout 60 crates/raft_trace/out/raft_trace "$@"; }
 trace_into_full_device() { trace "$@" > /dev/full; }
 trace_into_nothing() { trace "$@" >&-; }
-trace_usage() { trace "$@" | head -n 1; }
+trace_usage() { trace "$@" | sed -n 1p; }
 start() { printf '{"event":"started","voters":[[1,2,3]]}\n'; }
 # Ten megabytes of a piece, over and over.
 ten_megabytes() { yes "$1" | tr -d '\n' | head -c 10000000; }
@@ -107,7 +107,7 @@ records() {
     local safe=" terms with a leader, 0 committed, 0 votes sent again"
     local no_event="line 2: it is no JSON with a text \`event\`"
     compare "a safe run" 0 "$(cat crates/raft_trace/stdout)" "" trace < crates/raft_trace/stdin
-    compare "no record" 2 "line 1: it has to be \`started\`, with lists of numbers \`voters\`, and a number \`first\` or none" \
+    compare "no record" 2 "line 1: it has to be \`started\`, with lists of texts or numbers \`voters\`, and a number \`first\` or none" \
         "" trace < /dev/null
     compare "a start alone" 0 "safe: 0 events, 3 voters, 0$safe" "" trace < <(start)
     compare "no voters" 1 "line 1: the cluster starts: quorums of the initial config are not known to intersect" \
@@ -124,7 +124,7 @@ records() {
         < <(start; yes '' | head -n 100000)
     compare "an index of 2^63" 1 "line 2: server 1 restarts with index 9223372036854775808: the server does not have so many entries" \
         "" trace < <(start; printf '{"event":"restarted","server":1,"index":9223372036854775808}')
-    compare "the greatest index" 2 "line 2: \`restarted\` needs the numbers \`server\` and \`index\`" "" trace \
+    compare "the greatest index" 2 "line 2: \`restarted\` needs the text or number \`server\`, and the number \`index\`" "" trace \
         < <(start; printf '{"event":"restarted","server":1,"index":18446744073709551615}')
     compare "a record that cannot be read" 3 "standard input: Is a directory (os error 21)" "" trace < /
     compare "an answer that cannot be written" 3 "" "" trace_into_full_device < <(start)

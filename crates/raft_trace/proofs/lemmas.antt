@@ -1,5 +1,6 @@
 pub mod InputLemmas
 pub mod FieldLemmas
+pub mod NameLemmas
 pub mod RunLemmas
 pub mod VoteLemmas
 pub mod ListLemmas

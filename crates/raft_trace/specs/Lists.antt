@@ -4,6 +4,7 @@ use Rattle.std.specs.List.{All}
 use Rattle.raft_safety.specs.Trace.{Tests}
 use Rattle.raft_safety.specs.Checker.{configs_of}
 use Rattle.raft_safety.specs.declared.memberships.Memberships.{Memberships}
+use Rattle.raft_trace.specs.Names.{numbering}
 use Rattle.raft_trace.specs.Run.{HasTaken, LeavesStartsOut, SafeRun, SaysStart, and_lines}
 use Rattle.raft_trace.specs.declared.judge.Judge.{Judge}
 
@@ -33,7 +34,7 @@ module _ (tests : Memberships ℕ ℕ → Tests ℕ ℕ ℕ (Option ℕ)) where
 
   -- a judge has judged these lines after the first line
   pub record HasJudged (first_line : List ℕ) (judged : List (List ℕ)) (judge : Judge) : Type 0 where
-    pub starts : SaysStart first_line (configs_of judge.checker).initial.items judge.first
+    pub starts : SaysStart (numbering judge.names) first_line (configs_of judge.checker).initial.items judge.first
     pub kept : List (List ℕ)
     pub are_kept : LeavesStartsOut first_line judged kept
     pub taken : HasTaken tests (and_lines [] kept) judge

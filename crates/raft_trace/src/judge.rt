@@ -3,6 +3,7 @@ ghost use Rattle.std.specs.Prelude.{◌≡◌, IfErr, IfOk, IfSome, IsTrue, OnOk
 ghost use Rattle.raft_safety.specs.Checker.{event_of as trace_event};
 ghost use Rattle.serde_json.specs.View.{view};
 ghost use Rattle.raft_trace.specs.Line.{Says};
+ghost use Rattle.raft_trace.specs.Names.{numbering};
 ghost use Rattle.raft_trace.specs.Numbers.{number_tests};
 ghost use Rattle.raft_trace.specs.Run.{Fills, IsBroken, IsStarted, Refuses, Takes, TakesEvent};
 
@@ -10,6 +11,7 @@ use crate::counts::Counts;
 use crate::event::{Act, event_of, installed};
 use crate::fault::Fault;
 use crate::field::value_of;
+use crate::names::Names;
 use crate::start::start_of;
 use raft_safety::checker::{Checker, Violation};
 use raft_safety::event::Event;
@@ -25,6 +27,8 @@ pub struct Judge {
     pub checker: Checker<u64, u64, u64, Memberships<u64, u64>>,
     /// The index of the first entry.
     pub first: u64,
+    /// The names of servers and of contents.
+    pub names: Names,
     /// What is counted of the events so far.
     pub counts: Counts,
 }
@@ -33,7 +37,8 @@ pub struct Judge {
 pub fn start(alloc: Global, line: &[u8]) -> Result<Judge, Fault>
     ensures { IfOk result (λ j. IsStarted number_tests line.now j) }
 {
-    let Some((initial, first)) = start_of(alloc, line)? else {
+    let mut names = Names::new(alloc);
+    let Some((initial, first)) = start_of(alloc, &mut names, line)? else {
         return Err(Fault::Malformed);
     };
     let counts = Counts::new(alloc, &initial)?;
@@ -44,6 +49,7 @@ pub fn start(alloc: Global, line: &[u8]) -> Result<Judge, Fault>
     Ok(Judge {
         checker,
         first,
+        names,
         counts,
     })
 }
@@ -67,16 +73,24 @@ impl Judge {
         let Some(value) = value_of(alloc, line)? else {
             return Err(Fault::Malformed);
         };
+        self.names.learn(&value)?;
         let event = self.event(alloc, &value)?;
         self.take_event(&event)
     }
 
     /// Returns the event that a line says. The entries of a snapshot are those of the leader.
     fn event(&self, alloc: Global, value: &Value) -> Result<Act, Fault>
-        ensures { IfOk result (λ e. Says self.now.first (view value.now) (trace_event e)) }
+        ensures { IfOk result (λ e.
+            Says (numbering self.now.names) self.now.first (view value.now) (trace_event e)) }
     {
-        let Some((server, term, leader, len)) = installed(value, self.first) else {
-            let event = event_of(alloc, value, self.first, self.counts.committed_by)?;
+        let Some((server, term, leader, len)) = installed(&self.names, value, self.first) else {
+            let event = event_of(
+                alloc,
+                &self.names,
+                value,
+                self.first,
+                self.counts.committed_by,
+            )?;
             return event.ok_or(Fault::Malformed);
         };
         match self.checker.leader_entries(alloc, term, leader, len)? {

@@ -7,6 +7,7 @@ mod fault;
 mod field;
 mod input;
 mod judge;
+mod names;
 mod progress;
 mod run;
 mod start;

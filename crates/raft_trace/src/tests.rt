@@ -1,5 +1,7 @@
 //! Answers to recorded runs.
 
+mod names;
+
 use crate::input::Lines;
 use crate::progress::Progress;
 use crate::run::run;
@@ -62,7 +64,7 @@ const ROWS: [(&str, u8, &str); 17] = [
     (
         r#"{"event":"restarted","server":1,"index":0}"#,
         2,
-        "line 9: `restarted` needs the numbers `server` and `index`\n",
+        "line 9: `restarted` needs the text or number `server`, and the number `index`\n",
     ),
     (
         r#"{"event":"applied","server":2,"index":2}"#,
@@ -70,14 +72,16 @@ const ROWS: [(&str, u8, &str); 17] = [
         "line 9: server 2 applies up to index 2: the entries are not known to be committed\n",
     ),
     (
-        r#"{"event":"acked","server":"b","term":1,"leader":1,"index":2}"#,
+        r#"{"event":"acked","server":[2],"term":1,"leader":1,"index":2}"#,
         2,
-        "line 9: `acked` needs the numbers `server`, `term`, `leader` and `index`\n",
+        "line 9: `acked` needs the texts or numbers `server` and `leader`, and the numbers `term` \
+            and `index`\n",
     ),
     (
         r#"{"event":"wrote","leader":1,"term":1,"index":3,"content":8,"voters":[[1,2]]}"#,
         2,
-        "line 9: `wrote` needs the numbers `leader`, `term` and `content`, and no `voters`\n",
+        "line 9: `wrote` needs the texts or numbers `leader` and `content`, the number `term`, and no \
+            `voters`\n",
     ),
     (
         r#"{"event":"appended","server":3,"term":2,"leader":3,"index":1}"#,
@@ -111,14 +115,21 @@ const ROWS: [(&str, u8, &str); 17] = [
     ),
 ];
 
+/// Returns the status of a list of lines, and the answer.
+fn judged(alloc: Global, text: &str) -> Result<(u8, String), AllocError> {
+    let mut said = String::new(alloc);
+    let mut lists = Vec::new(alloc);
+    lists.push(Lines::new(alloc, text.as_bytes(), None))?;
+    let status = run(alloc, &mut lists, Progress::silent(), &mut said);
+    Ok((status, said))
+}
+
 /// Whether this is the status and the answer to lines after those of `LED`.
 fn is_answered(alloc: Global, row: &str, status: u8, answer: &str) -> Result<bool, AllocError> {
     let mut text = String::from_str(alloc, LED)?;
     text.push_str(row)?;
-    let mut said = String::new(alloc);
-    let mut lists = Vec::new(alloc);
-    lists.push(Lines::new(alloc, text.as_str().as_bytes(), None))?;
-    Ok(run(alloc, &mut lists, Progress::silent(), &mut said) == status && said.as_str() == answer)
+    let (given, said) = judged(alloc, text.as_str())?;
+    Ok(given == status && said.as_str() == answer)
 }
 
 /// The names of lists, in their order.
@@ -228,7 +239,7 @@ const LISTS: [(&str, u8, &str); 10] = [
 {"event":"started","voters":[[1]]}
 "#,
         2,
-        "a:1: it has to be `started`, with lists of numbers `voters`, and a number `first` or none\n",
+        "a:1: it has to be `started`, with lists of texts or numbers `voters`, and a number `first` or none\n",
     ),
     // Lists may be empty.
     (

@@ -10,6 +10,7 @@ use Rattle.raft_safety.specs.Trace.{Tests, TracesAreExecutions}
 use Rattle.raft_safety.specs.Checker.{configs_of}
 use Rattle.raft_safety.specs.declared.memberships.Memberships.{Memberships}
 use Rattle.raft_trace.specs.Lists.{AreSafe, Begins, HasJudged, IsMerge, Judges, JudgesNext, JudgesSome, TakesFronts}
+use Rattle.raft_trace.specs.Names.{numbering}
 use Rattle.raft_trace.specs.Run.{
   GoesOn,
   HasTaken,
@@ -23,6 +24,7 @@ use Rattle.raft_trace.specs.Run.{
   and_lines,
 }
 use Rattle.raft_trace.specs.declared.judge.Judge.{Judge}
+use Rattle.raft_trace.proofs.lemmas.NameLemmas.{start_more}
 
 -- ---- fronts of lists
 
@@ -113,11 +115,13 @@ and_lines-append earlier (x ∷ later) line = and_lines-append (x ∷ earlier) l
 
 module _ (tests : Memberships ℕ ℕ → Tests ℕ ℕ ℕ (Option ℕ)) where
   starts_still : (first_line : List ℕ) (old new : Judge) → GoesOn tests old new
-      → SaysStart first_line (configs_of old.checker).initial.items old.first
-      → SaysStart first_line (configs_of new.checker).initial.items new.first
+      → SaysStart (numbering old.names) first_line (configs_of old.checker).initial.items old.first
+      → SaysStart (numbering new.names) first_line (configs_of new.checker).initial.items new.first
   starts_still first_line old new goes starts =
-      subst (λ (v : Vec (Vec ℕ)). SaysStart first_line v.items new.first) (sym goes.0)
-      (subst (λ (n : ℕ). SaysStart first_line (configs_of old.checker).initial.items n) (sym goes.1) starts)
+      let configs = (configs_of old.checker).initial.items in
+      subst (λ (v : Vec (Vec ℕ)). SaysStart (numbering new.names) first_line v.items new.first) (sym goes.0)
+      (subst (λ (n : ℕ). SaysStart (numbering new.names) first_line configs n) (sym goes.1)
+      (start_more (numbering old.names) (numbering new.names) goes.2 first_line configs old.first starts))
 
   -- a judge that takes a line has judged it
   pub judges_taken : (first_line line : List ℕ) (old new : Judge) → Takes tests line old new
@@ -211,6 +215,8 @@ module _ (tests : Memberships ℕ ℕ → Tests ℕ ℕ ℕ (Option ℕ)) where
     are_kept = has.are_kept;
     members = configs_of judge.checker;
     first = judge.first;
+    number_of = numbering judge.names;
+    apart = has.taken.table.apart;
     starts = has.starts;
     no_changes = has.taken.no_changes;
     trace = has.taken.trace;

@@ -8,7 +8,7 @@ use Rattle.raft_trace.proofs.judge.start.Goals as goal
 pub returns : goal.returns
 returns c =
     let members : Memberships ℕ ℕ = record { initial = c.in-Some.initial; held = c.new-held.result } in
-    started number_tests c.args.line.now _ members c.in_ok-checker.ensures.ok (rw c.in-Some.is at c.in_ok-initial.ensures)
-    c.new-held.ensures.items
+    started number_tests c.args.line.now _ members c.in_ok-checker.ensures.ok
+    (rw c.in-Some.is at c.in_ok-initial.ensures.says) c.new-held.ensures.items (c.in_ok-initial.ensures.learns.1 c.new-names.ensures)
     (c.memberships_are_exact.ensures (λ x y e. eqb-true x y e) (λ x y e. eqb-true x y e) (λ x y e. eqb-true x y e))
     c.in_ok-checker.ensures.begins c.in_ok-counts.ensures
