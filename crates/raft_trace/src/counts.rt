@@ -12,7 +12,7 @@ use std::collections::{BTreeMap, BTreeSet};
 /// What is counted of the events so far.
 #[derive(Drop)]
 pub struct Counts {
-    /// The servers that occur in events or as voters.
+    /// The servers that occur in events, or as voters of the start.
     pub servers: BTreeSet<u64>,
     /// The events of lines.
     pub events: u64,
@@ -24,8 +24,6 @@ pub struct Counts {
     pub acks: u64,
     /// The appends that were filled in.
     pub appends: u64,
-    /// The entries with a membership that leaders have written.
-    pub changes: u64,
     /// The terms in which a leader has written an entry.
     pub terms: BTreeSet<u64>,
     /// The greatest number of entries that a leader has committed.
@@ -48,12 +46,27 @@ impl Counts {
             commits: 0,
             acks: 0,
             appends: 0,
-            changes: 0,
             terms: BTreeSet::new(alloc),
             committed: 0,
             committed_by: None,
             votes: BTreeMap::new(alloc),
         })
+    }
+
+    /// Returns how many servers occur in events, as voters of the start, or as voters of these memberships.
+    pub fn server_count(
+        &self,
+        alloc: Global,
+        held: &[(u64, Vec<Vec<u64>>)],
+    ) -> Result<usize, AllocError> {
+        let mut servers = BTreeSet::new(alloc);
+        for id in &self.servers {
+            servers.insert(*id)?;
+        }
+        for membership in held {
+            add_voters(&mut servers, &membership.1)?;
+        }
+        Ok(servers.len())
     }
 
     /// Whether the event is the last vote of the server, sent again.
@@ -94,6 +107,7 @@ impl Counts {
                 term,
                 candidate,
             } => {
+                self.servers.insert(*server)?;
                 self.votes.insert(*server, (*term, *candidate))?;
             }
             Event::Wrote { term, .. } => {
@@ -144,10 +158,22 @@ impl Counts {
 /// Returns the voters of configs.
 fn voters_of(alloc: Global, configs: &[Vec<u64>]) -> Result<BTreeSet<u64>, AllocError> {
     let mut voters = BTreeSet::new(alloc);
-    for config in configs {
-        for id in config {
-            voters.insert(*id)?;
-        }
-    }
+    add_voters(&mut voters, configs)?;
     Ok(voters)
+}
+
+/// Adds the voters of configs to some servers.
+fn add_voters(servers: &mut BTreeSet<u64>, configs: &[Vec<u64>]) -> Result<(), AllocError> {
+    for config in configs {
+        add_each(servers, config)?;
+    }
+    Ok(())
+}
+
+/// Adds each of these ids to some servers.
+fn add_each(servers: &mut BTreeSet<u64>, ids: &[u64]) -> Result<(), AllocError> {
+    for id in ids {
+        servers.insert(*id)?;
+    }
+    Ok(())
 }

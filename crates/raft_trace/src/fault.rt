@@ -17,6 +17,18 @@ pub enum Fault {
     Refused(Violation),
 }
 
+impl Fault {
+    ghost use Rattle.std.specs.Prelude.{IsTrue};
+    ghost use Rattle.raft_trace.specs.Run.{IsBroken};
+
+    /// Whether the line breaks a rule, or has not the next index of its leader.
+    pub fn is_broken(&self) -> bool
+        ensures { IsTrue result → IsBroken self.now }
+    {
+        matches!(self, Fault::Skips(_) | Fault::Refused(Violation::Rule(_)))
+    }
+}
+
 impl From<AllocError> for Fault {
     ghost from_gives = { λ _ f. f ≡ Refused OutOfMemory };
 

@@ -5,7 +5,7 @@ ghost use Rattle.raft_trace.specs.Numbers.{number_tests};
 ghost use Rattle.raft_trace.specs.Run.{Fills, IsFilledIn};
 
 use crate::event::Act;
-use crate::field::{event_name, len, number};
+use crate::field::{event_name, id, len, number};
 use crate::followed::{Followed, KEPT};
 use crate::judge::Judge;
 use raft_safety::checker::Violation;
@@ -37,7 +37,7 @@ impl Judge {
     fn fill_in_commit(&mut self, value: &Value) -> Result<(), AllocError>
         ensures { OnOk result (Fills number_tests self.old self.new) }
     {
-        let Some(server) = number(value, "server") else {
+        let Some(server) = id(&self.names, value, "server") else {
             return Ok(());
         };
         let Some(len) = len(value, "index", self.first) else {
@@ -135,7 +135,7 @@ impl Judge {
     fn fill_in_append(&mut self, alloc: Global, value: &Value) -> Result<(), AllocError>
         ensures { OnOk result (Fills number_tests self.old self.new) }
     {
-        let Some(server) = number(value, "server") else {
+        let Some(server) = id(&self.names, value, "server") else {
             return Ok(());
         };
         let Some(len) = len(value, "index", self.first) else {

@@ -1,27 +1,26 @@
 //! Judges the lines of a recorded run.
-ghost use Rattle.std.specs.Prelude.{◌≡◌, IfErr, IfOk, IfSome, IsTrue, None, OnOk};
+ghost use Rattle.std.specs.Prelude.{IfErr, IfOk, IfSome, None, OnOk};
 ghost use Rattle.raft_safety.specs.Checker.{configs_of, event_of as trace_event};
 ghost use Rattle.raft_safety.specs.Ranks.{IsAmong};
 ghost use Rattle.serde_json.specs.View.{view};
 ghost use Rattle.raft_trace.specs.Line.{Says};
+ghost use Rattle.raft_trace.specs.Names.{numbering};
 ghost use Rattle.raft_trace.specs.Numbers.{number_tests};
-ghost use Rattle.raft_trace.specs.Run.{IsBroken, IsSafeRun, IsStarted, Refuses, SaysMembership, Stays, Takes, TakesAll, TakesEvent, TakesHolding, TakesSaid};
+ghost use Rattle.raft_trace.specs.Run.{IsBroken, IsStarted, Refuses, SaysMembership, Stays, Takes, TakesEvent, TakesHolding, TakesSaid};
 
 use crate::counts::Counts;
 use crate::event::{Act, Checking, event_of, installed};
 use crate::fault::Fault;
-use crate::field::{configs, first_index, is_named, number, value_of};
+use crate::field::{configs, number, value_of};
 use crate::followed::Followers;
-use crate::input::{open, read_line};
-use crate::text::{push_fault, push_safe};
+use crate::names::Names;
+use crate::start::start_of;
 use raft_safety::checker::{Checker, LearnError, Violation};
 use raft_safety::event::Event;
-use raft_safety::laws::traces_are_executions;
 use raft_safety::memberships::{Memberships, memberships_are_exact};
 use raft_safety::rule::Rule;
 use serde_json::Value;
 use std::alloc::Global;
-use std::io::{self, BufRead, Read};
 
 /// Judges one line after the other.
 #[derive(Drop)]
@@ -30,84 +29,20 @@ pub struct Judge {
     pub checker: Checking,
     /// The index of the first entry.
     pub first: u64,
+    /// The names of servers and of contents.
+    pub names: Names,
     /// What is counted of the events so far.
     pub counts: Counts,
     /// The leaders that servers have followed.
     pub followers: Followers,
 }
 
-/// Judges the lines of a reader, and writes the answer.
-///
-/// Returns the exit status: 0 if the run is safe, 1 if a line breaks a rule, 2 if a line is no event,
-/// and 3 after an error of the input, or if there is no memory for an event.
-pub fn run<R: Read + Drop>(alloc: Global, reader: R, answer: &mut String) -> u8
-    ensures { result ≡ 0 → IsSafeRun number_tests (R.remaining reader) }
-{
-    match judge_lines(alloc, reader, answer) {
-        Ok(status) => status,
-        Err(_) => 3,
-    }
-}
-
-/// Judges the lines of a reader, of which the first one says how the cluster starts.
-fn judge_lines<R: Read + Drop>(alloc: Global, reader: R, answer: &mut String) -> io::Result<u8>
-    ensures { IfOk result (λ status. status ≡ 0 → IsSafeRun number_tests (R.remaining reader)) }
-{
-    let mut input = open(alloc, reader)?;
-    let mut line = Vec::new(alloc);
-    let is_last = read_line(&mut input, &mut line)?;
-    traces_are_executions::<u64, u64, u64, Option<u64>>();
-    match start(alloc, &line) {
-        Ok(mut judge) => {
-            if is_last {
-                push_safe(answer, &judge.counts)?;
-                return Ok(0);
-            }
-            judge_rest(alloc, &mut input, &mut judge, answer)
-        }
-        Err(fault) => Ok(push_fault(alloc, answer, 1, &line, fault)?),
-    }
-}
-
-/// Judges the lines after the first one.
-fn judge_rest<B: BufRead>(
-    alloc: Global,
-    input: &mut B,
-    judge: &mut Judge,
-    answer: &mut String,
-) -> io::Result<u8>
-    ensures { IfOk result (λ status. status ≡ 0 →
-        TakesAll number_tests (B.remaining input.old) judge.old judge.new) }
-{
-    let mut line = Vec::new(alloc);
-    for number in 2..u64::MAX {
-        let is_last = read_line(input, &mut line)?;
-        match judge.take(alloc, &line) {
-            Ok(()) => {}
-            Err(fault) => return Ok(push_fault(alloc, answer, number, &line, fault)?),
-        }
-        if is_last {
-            push_safe(answer, &judge.counts)?;
-            return Ok(0);
-        }
-    }
-    Ok(3)
-}
-
 /// Returns the judge of a cluster that starts as the line says.
-fn start(alloc: Global, line: &[u8]) -> Result<Judge, Fault>
+pub fn start(alloc: Global, line: &[u8]) -> Result<Judge, Fault>
     ensures { IfOk result (λ j. IsStarted number_tests line.now j) }
 {
-    let Some(value) = value_of(alloc, line)? else {
-        return Err(Fault::Malformed);
-    };
-    if !is_named(&value, "started") {
-        return Err(Fault::Malformed);
-    }
-    let Some(first) = first_index(&value) else {
-        return Err(Fault::Malformed);
-    };
-    let Some(initial) = configs(alloc, &value)? else {
+    let mut names = Names::new(alloc);
+    let Some((initial, first)) = start_of(alloc, &mut names, line)? else {
         return Err(Fault::Malformed);
     };
     let counts = Counts::new(alloc, &initial)?;
@@ -118,6 +53,7 @@ fn start(alloc: Global, line: &[u8]) -> Result<Judge, Fault>
     Ok(Judge {
         checker,
         first,
+        names,
         counts,
         followers: Followers::new(alloc),
     })
@@ -142,6 +78,7 @@ impl Judge {
         let Some(value) = value_of(alloc, line)? else {
             return Err(Fault::Malformed);
         };
+        self.names.learn(&value)?;
         self.fill_in(alloc, &value)?;
         self.take_value(alloc, &value)
     }
@@ -155,7 +92,7 @@ impl Judge {
         let event = self.event(alloc, value)?;
         self.test_index(value, &event)?;
         self.test_last_term(value, &event)?;
-        match membership(alloc, value, &event)? {
+        match membership(alloc, &self.names, value, &event)? {
             Some((content, configs)) => self.take_membership(&event, content, configs),
             None => self.take_event(&event),
         }
@@ -163,11 +100,13 @@ impl Judge {
 
     /// Returns the event that a line says. The entries of a snapshot are those of the leader.
     fn event(&self, alloc: Global, value: &Value) -> Result<Act, Fault>
-        ensures { IfOk result (λ e. Says self.now.first (view value.now) (trace_event e)) }
+        ensures { IfOk result (λ e.
+            Says (numbering self.now.names) self.now.first (view value.now) (trace_event e)) }
     {
-        let Some((server, term, leader, len)) = installed(value, self.first) else {
+        let Some((server, term, leader, len)) = installed(&self.names, value, self.first) else {
             let event = event_of(
                 alloc,
+                &self.names,
                 value,
                 self.first,
                 self.counts.committed_by,
@@ -262,12 +201,13 @@ impl Judge {
         ensures broken { IfErr result (λ fault. IsBroken fault →
             Stays number_tests self.old self.new) }
     {
-        match self.checker.learn(content, configs) {
+        let learned = self.checker.learn(content, configs);
+        memberships_are_exact::<u64, u64, u64>(self.checker.configs());
+        match learned {
             Ok(()) => {}
             Err(LearnError::OutOfMemory) => return Err(Fault::from(Violation::OutOfMemory)),
             Err(_) => return Err(Fault::Malformed),
         }
-        memberships_are_exact::<u64, u64, u64>(self.checker.configs());
         match self.take_event(event) {
             Ok(()) => Ok(()),
             Err(fault) => {
@@ -303,10 +243,12 @@ impl Judge {
 /// says one.
 fn membership(
     alloc: Global,
+    names: &Names,
     value: &Value,
     event: &Act,
 ) -> Result<Option<(u64, Vec<Vec<u64>>)>, Fault>
-    ensures { IfOk result (λ m. SaysMembership (view value.now) (trace_event event.now) m) }
+    ensures { IfOk result (λ m.
+        SaysMembership (numbering names.now) (view value.now) (trace_event event.now) m) }
 {
     let Event::Wrote { entry, .. } = event else {
         return Ok(None);
@@ -314,7 +256,7 @@ fn membership(
     if value.get("voters").is_none() {
         return Ok(None);
     }
-    match configs(alloc, value)? {
+    match configs(alloc, names, value)? {
         Some(configs) => Ok(Some((entry.content, configs))),
         None => Err(Fault::Malformed),
     }

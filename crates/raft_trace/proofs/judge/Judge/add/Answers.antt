@@ -8,7 +8,7 @@ use Rattle.raft_trace.proofs.judge.Judge.add.Goals as goal
 pub returns-in_ok-note_event-in-Ok : goal.returns-in_ok-note_event-in-Ok
 returns-in_ok-note_event-in-Ok c =
     let e = trace_event c.args.event.now in
-    λ may. keeps_more number_tests FillsIn c.args.self.now _ c.in-Ok.ensures.configs refl λ es keeps. (
+    λ may. keeps_more number_tests FillsIn c.args.self.now _ c.in-Ok.ensures.configs refl refl λ es keeps. (
       e ∷ es,
       fills_one e es may,
       (c.in-Ok.ensures.answer keeps.exact es keeps.keeps).1,
@@ -17,7 +17,7 @@ returns-in_ok-note_event-in-Ok c =
 
 pub returns-in-Err-Rule : goal.returns-in-Err-Rule
 returns-in-Err-Rule c =
-    λ may. keeps_more number_tests FillsIn c.args.self.now _ c.in-Err-Rule.ensures.configs refl λ es keeps. (
+    λ may. keeps_more number_tests FillsIn c.args.self.now _ c.in-Err-Rule.ensures.configs refl refl λ es keeps. (
       es,
       fills_none es,
       (rw c.in-Err-Rule.field-0-is at (c.in-Err-Rule.ensures.answer keeps.exact es keeps.keeps)).1,

@@ -9,7 +9,7 @@ pub returns-then-has_vote-clause-taken : goal.returns-then-has_vote-clause-taken
 returns-then-has_vote-clause-taken c =
     let last = c.has_vote.ensures c.if-has_vote.true in
     let e = trace_event c.args.event.now in
-    keeps_more number_tests _ c.args.self.now _ refl refl λ es keeps. (
+    keeps_more number_tests _ c.args.self.now _ refl refl refl λ es keeps. (
       es,
       inr (last_is_vote _ e last, last_is_in _ e es last keeps.votes, refl),
       keeps.keeps,
@@ -18,7 +18,7 @@ returns-then-has_vote-clause-taken c =
 
 pub returns-in_err-record-clause-broken : goal.returns-in_err-record-clause-broken
 returns-in_err-record-clause-broken c = whatever_err c.from_residual.result _ λ fault broken.
-    keeps_more number_tests _ c.args.self.now _ c.in_err-record.ensures.configs refl λ es keeps. (
+    keeps_more number_tests _ c.args.self.now _ c.in_err-record.ensures.configs refl refl λ es keeps. (
       es,
       refl,
       (c.in_err-record.ensures.answer keeps.exact es keeps.keeps).1,
@@ -28,7 +28,7 @@ returns-in_err-record-clause-broken c = whatever_err c.from_residual.result _ λ
 pub returns-clause-taken : goal.returns-clause-taken
 returns-clause-taken c =
     let e = trace_event c.args.event.now in
-    keeps_more number_tests _ c.args.self.now _ c.in_ok-record.ensures.configs refl λ es keeps. (
+    keeps_more number_tests _ c.args.self.now _ c.in_ok-record.ensures.configs refl refl λ es keeps. (
       e ∷ es,
       inl refl,
       (c.in_ok-record.ensures.answer keeps.exact es keeps.keeps).1,
