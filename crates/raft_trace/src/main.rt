@@ -3,6 +3,7 @@
 
 mod counts;
 mod event;
+mod facts;
 mod fault;
 mod field;
 mod fill;
@@ -16,6 +17,7 @@ mod start;
 #[cfg(test)]
 mod tests;
 mod text;
+mod why;
 
 use crate::input::Lines;
 use crate::progress::Progress;
