@@ -127,7 +127,8 @@ records() {
     compare "the greatest index" 2 "line 2: \`restarted\` needs the text or number \`server\`, and the number \`index\`" "" trace \
         < <(start; printf '{"event":"restarted","server":1,"index":18446744073709551615}')
     compare "a record that cannot be read" 3 "standard input: Is a directory (os error 21)" "" trace < /
-    compare "an answer that cannot be written" 3 "" "" trace_into_full_device < <(start)
+    compare "an answer that cannot be written" 3 "" "raft_trace: No space left on device (os error 28)" \
+        trace_into_full_device < <(start)
     files
 }
 
@@ -147,7 +148,8 @@ files() {
     compare "an empty word" 2 "" "raft_trace: : No such file or directory (os error 2)" trace "" < <(start)
     compare "a directory" 3 "$folder: Is a directory (os error 21)" "" trace "$folder"
     compare "a directory after a start" 3 "$folder: Is a directory (os error 21)" "" trace - "$folder" < <(start)
-    compare "a closed output" 3 "" "" trace_into_nothing < <(start)
+    compare "a closed output" 3 "" "raft_trace: Bad file descriptor (os error 9)" trace_into_nothing < <(start)
+    compare "a word that is no UTF-8" 3 "" "raft_trace: invalid data" trace $'\xff' < <(start)
     compare "a file" 0 "$said" "" trace crates/raft_trace/stdin
     compare "standard input among files" 0 "$said" "" trace - /dev/null < crates/raft_trace/stdin
     # Each server has its own file, which has the events of the others in no order.
