@@ -43,3 +43,4 @@ pub mod KnownElectionLemmas
 pub mod LogTreeLemmas
 pub mod CommonLemmas
 pub mod ChildLemmas
+pub mod ReadLemmas

@@ -1,4 +1,4 @@
--- How a run is tested: servers, terms and contents are numbers.
+-- How a run is tested: terms are numbers, and numbers stand for the names of servers and of contents.
 use Rattle.std.specs.Prelude.{◌||◌, ℕ, Option, None, map, nat_eq}
 use Rattle.std.specs.Cmp.Lexicographic.{pointwise}
 use Rattle.std.specs.List.{list_all, list_any}
@@ -7,14 +7,13 @@ use Rattle.raft_members.specs.quorum.Majority.{is_majority}
 use Rattle.raft_safety.specs.Trace.{Tests}
 use Rattle.raft_safety.specs.Memberships.{configs_of, some_meet}
 use Rattle.raft_safety.specs.Inner.CheckerState.{config_in}
-use Rattle.raft_safety.specs.declared.checker.counting.ConfigsCount.TheVariants.{WhenAppended}
+use Rattle.raft_safety.specs.declared.checker.counting.ConfigsCount.{ConfigsCount}
 use Rattle.raft_safety.specs.declared.memberships.Memberships.{Memberships}
 
 -- numbers are compared as numbers. A quorum is a majority of each config of a membership, and quorums of
--- two memberships are known to intersect if they share a config, or if majorities of a config of each do.
--- Configs count from their append on
-abbrev pub number_tests : Memberships ℕ ℕ → Tests ℕ ℕ ℕ (Option ℕ)
-number_tests m = record {
+-- two memberships are known to intersect if they share a config, or if majorities of a config of each do
+abbrev pub number_tests : ConfigsCount → Memberships ℕ ℕ → Tests ℕ ℕ ℕ (Option ℕ)
+number_tests counting m = record {
   rank = λ t. t;
   same_term = nat_eq;
   same_id = nat_eq;
@@ -28,5 +27,5 @@ number_tests m = record {
       let others = configs_of nat_eq m.initial.items (map (λ p. (p.0, p.1.items)) m.held.items) b in
       share_child (λ q r. pointwise nat_eq q.items r.items) these others
       || some_meet nat_eq (λ q. q.items) these others;
-  counting = WhenAppended;
+  counting = counting;
 }

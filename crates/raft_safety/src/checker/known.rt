@@ -93,7 +93,7 @@ fn is_covered<T: Term, D: Copy + Eq>(
 }
 
 /// Returns the log up to the config before the last config of a log, the empty log if there is none.
-fn config_before<T: Term, D: Copy + Eq>(logs: &Logs<T, D>, log: usize) -> usize
+pub fn config_before<T: Term, D: Copy + Eq>(logs: &Logs<T, D>, log: usize) -> usize
     ensures config { (holds : D → Bool) → AreLogs holds logs.now → log < length logs.now.logs →
         result ≤ config_at logs.now log }
     ensures at_most_one { (holds : D → Bool) → AreLogs holds logs.now → log < length logs.now.logs →
