@@ -10,6 +10,7 @@ ghost use Rattle.raft_trace.specs.Run.{IsBroken, IsStarted, Refuses, SaysMembers
 
 use crate::counts::Counts;
 use crate::event::{Act, Checking, event_of, installed};
+use crate::facts::{Facts, Place};
 use crate::fault::Fault;
 use crate::field::{configs, number, value_of};
 use crate::followed::Followers;
@@ -35,6 +36,8 @@ pub struct Judge {
     pub counts: Counts,
     /// The leaders that servers have followed.
     pub followers: Followers,
+    /// The lines that later lines may contradict.
+    pub facts: Facts,
 }
 
 /// Returns the judge of a cluster that starts as the line says.
@@ -56,18 +59,25 @@ pub fn start(alloc: Global, line: &[u8]) -> Result<Judge, Fault>
         names,
         counts,
         followers: Followers::new(alloc),
+        facts: Facts::new(alloc),
     })
 }
 
 impl Judge {
-    /// Takes the next line. An empty line says nothing, and a vote that a server sends again is left
-    /// out.
+    /// Takes the next line, which is at this place. An empty line says nothing, and a vote that a server
+    /// sends again is left out. `fills` says whether events may be filled in.
     ///
     /// # Errors
     ///
     /// Why the line is not taken. If it breaks a rule, the judge still has taken the lines before, so
     /// it may take another one.
-    pub fn take(&mut self, alloc: Global, line: &[u8]) -> Result<(), Fault>
+    pub fn take(
+        &mut self,
+        alloc: Global,
+        place: Place,
+        fills: bool,
+        line: &[u8],
+    ) -> Result<(), Fault>
         ensures taken { OnOk result (Takes number_tests line.now self.old self.new) }
         ensures broken { IfErr result (λ fault. IsBroken fault →
             Refuses number_tests self.old self.new) }
@@ -79,12 +89,12 @@ impl Judge {
             return Err(Fault::Malformed);
         };
         self.names.learn(&value)?;
-        self.fill_in(alloc, &value)?;
-        self.take_value(alloc, &value)
+        self.fill_in(alloc, fills, &value)?;
+        self.take_value(alloc, place, &value)
     }
 
     /// Takes the event that the value of a line says.
-    fn take_value(&mut self, alloc: Global, value: &Value) -> Result<(), Fault>
+    fn take_value(&mut self, alloc: Global, place: Place, value: &Value) -> Result<(), Fault>
         ensures taken { OnOk result (TakesSaid number_tests (view value.now) self.old self.new) }
         ensures broken { IfErr result (λ fault. IsBroken fault →
             Stays number_tests self.old self.new) }
@@ -93,8 +103,8 @@ impl Judge {
         self.test_index(value, &event)?;
         self.test_last_term(value, &event)?;
         match membership(alloc, &self.names, value, &event)? {
-            Some((content, configs)) => self.take_membership(&event, content, configs),
-            None => self.take_event(&event),
+            Some((content, configs)) => self.take_membership(place, &event, content, configs),
+            None => self.take_event(place, &event),
         }
     }
 
@@ -168,6 +178,7 @@ impl Judge {
     /// Takes the next event, that a leader writes an entry of a content which holds a membership.
     fn take_membership(
         &mut self,
+        place: Place,
         event: &Act,
         content: u64,
         configs: Vec<Vec<u64>>,
@@ -182,9 +193,9 @@ impl Judge {
                 if *held != configs {
                     return Err(Fault::Malformed);
                 }
-                self.take_event(event)
+                self.take_event(place, event)
             }
-            None => self.take_new_membership(event, content, configs),
+            None => self.take_new_membership(place, event, content, configs),
         }
     }
 
@@ -192,6 +203,7 @@ impl Judge {
     /// is known of this content.
     fn take_new_membership(
         &mut self,
+        place: Place,
         event: &Act,
         content: u64,
         configs: Vec<Vec<u64>>,
@@ -208,7 +220,7 @@ impl Judge {
             Err(LearnError::OutOfMemory) => return Err(Fault::from(Violation::OutOfMemory)),
             Err(_) => return Err(Fault::Malformed),
         }
-        match self.take_event(event) {
+        match self.take_event(place, event) {
             Ok(()) => Ok(()),
             Err(fault) => {
                 self.checker.forget();
@@ -219,7 +231,7 @@ impl Judge {
     }
 
     /// Takes the next event.
-    fn take_event(&mut self, event: &Act) -> Result<(), Fault>
+    fn take_event(&mut self, place: Place, event: &Act) -> Result<(), Fault>
         ensures taken { OnOk result
             (TakesEvent number_tests (trace_event event.now) None self.old self.new) }
         ensures broken { IfErr result (λ fault. IsBroken fault →
@@ -235,7 +247,24 @@ impl Judge {
         self.checker.record(event)?;
         self.counts.note(event)?;
         self.followers.note_event(event)?;
+        let len = self.written_by(event);
+        self.facts.note(place, event, len)?;
         Ok(())
+    }
+
+    /// Returns how many entries the leader has that writes one by an event.
+    fn written_by(&self, event: &Act) -> usize {
+        match event {
+            Event::Wrote { leader, term, .. } => {
+                self.checker.leader_len(*term, *leader).unwrap_or(0)
+            }
+            _ => 0,
+        }
+    }
+
+    /// Returns the index of the last of so many first entries.
+    pub fn index(&self, len: usize) -> u64 {
+        self.first.saturating_add(len as u64).saturating_sub(1)
     }
 }
 

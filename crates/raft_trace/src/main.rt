@@ -3,6 +3,7 @@
 
 mod counts;
 mod event;
+mod facts;
 mod fault;
 mod field;
 mod fill;
@@ -16,6 +17,7 @@ mod start;
 #[cfg(test)]
 mod tests;
 mod text;
+mod why;
 
 use crate::input::Lines;
 use crate::progress::Progress;
@@ -70,26 +72,45 @@ impl Read for Source {
 type SourceLines = Lines<BufReader<Source>>;
 
 fn main(rt: HostRuntime) -> ExitCode {
-    ExitCode::from(run_words(&rt).unwrap_or(3))
+    match run_words(&rt) {
+        Ok(status) => ExitCode::from(status),
+        Err(error) => {
+            // If standard error is closed, the status says enough.
+            let _ = eprintln!(rt; "raft_trace: {error}");
+            ExitCode::from(3)
+        }
+    }
 }
 
 /// Does what the command line asks for. Returns the exit status.
 fn run_words(rt: &HostRuntime) -> io::Result<u8> {
     let words: Vec<String> = env::args(rt)?.skip(1).collect(rt.alloc())?;
-    for word in &words {
-        match word.as_str() {
-            "--help" | "-h" => {
-                rt.print(USAGE)?;
-                return Ok(0);
-            }
-            "-" => {}
-            text if text.starts_with('-') => {
-                let _ = eprintln!(rt; "raft_trace: `{text}` is no option; --help prints the usage");
-                return Ok(2);
-            }
-            _ => {}
+    match option_in(&words) {
+        None => judge_files(rt, words),
+        Some("--help" | "-h") => {
+            rt.print(USAGE)?;
+            Ok(0)
+        }
+        Some(option) => {
+            let _ = eprintln!(rt; "raft_trace: `{option}` is no option; --help prints the usage");
+            Ok(2)
         }
     }
+}
+
+/// Returns the first word that is an option. A hyphen alone is none.
+fn option_in(words: &[String]) -> Option<&str> {
+    for word in words {
+        let text = word.as_str();
+        if text != "-" && text.starts_with('-') {
+            return Some(text);
+        }
+    }
+    None
+}
+
+/// Judges the files that words name, or standard input if there is no word. Returns the exit status.
+fn judge_files(rt: &HostRuntime, words: Vec<String>) -> io::Result<u8> {
     let mut lists = Vec::new(rt.alloc());
     if words.is_empty() {
         lists.push(lines_of(rt, Source::Input(rt.stdin()), None)?)?;

@@ -1,17 +1,19 @@
 //! Judges a recorded run, which is one list of lines or several.
-ghost use Rattle.std.specs.Prelude.{◌≡◌, ◌<◌, [], ◌∷◌, ℕ, List, IfErr, IfOk, IsTrue, OnOk, Some, map};
+ghost use Rattle.std.specs.Prelude.{◌≡◌, ◌*◌, ◌<◌, ◌≤◌, [], ◌∷◌, ℕ, List, IfErr, IfOk, IsTrue, OnOk, Some, map};
 ghost use Rattle.std.specs.List.{All};
 ghost use Rattle.raft_trace.specs.Input.{lines_left};
 ghost use Rattle.raft_trace.specs.Lists.{AreSafe, Begins, Judges, JudgesNext, JudgesSome};
 ghost use Rattle.raft_trace.specs.Numbers.{number_tests};
 ghost use Rattle.raft_trace.specs.Run.{IsBroken, SafeRun};
 
+use crate::facts::Place;
 use crate::fault::Fault;
 use crate::input::Lines;
 use crate::judge::{Judge, start};
 use crate::progress::Progress;
 use crate::start::say_one_start;
 use crate::text::{push_fault, push_safe};
+use crate::why::push_why;
 use raft_safety::laws::traces_are_executions;
 use std::alloc::{AllocError, Global};
 use std::io::{self, BufRead};
@@ -84,7 +86,7 @@ fn judge_lists<B: BufRead>(
         Err((at, stop)) => return push_stop(alloc, answer, lists, at, stop),
     }
     if !are_ended(lists) {
-        return push_waiting(alloc, answer, lists);
+        return push_waiting(alloc, answer, lists, &judge);
     }
     push_safe(alloc, answer, &judge)?;
     Ok(0)
@@ -112,7 +114,7 @@ fn begin<B: BufRead>(alloc: Global, lists: &mut [Lines<B>]) -> Result<(Vec<u8>, 
 /// Takes lines of the lists, until the next line of each list is refused, or all lists are at their end.
 ///
 /// After a line that is taken, the next one is of the same list. After one that is refused, it is of
-/// the next list.
+/// the next list. Events are filled in only if the next line of each list is refused without them.
 ///
 /// # Errors
 ///
@@ -130,13 +132,14 @@ fn take_lines<B: BufRead>(
     let mut at = 0;
     let mut refused = 0;
     for _ in 0..u64::MAX {
-        if refused >= lists.len() {
+        if refused >= tries(lists.len()) {
             return Ok(());
         }
+        let fills = may_fill_in(refused, lists.len());
         if at >= lists.len() {
             at = 0;
         }
-        let is_taken = match take_next(alloc, first_line, &mut lists[at], judge) {
+        let is_taken = match take_next(alloc, first_line, at, fills, &mut lists[at], judge) {
             Ok(is_taken) => is_taken,
             Err(stop) => return Err((at, stop)),
         };
@@ -151,10 +154,30 @@ fn take_lines<B: BufRead>(
     Err((at, Stop::from(AllocError)))
 }
 
+/// Returns how many lines in a row are refused before a run is judged no further. If there are several
+/// lists, the next line of each is tried twice.
+fn tries(lists: usize) -> usize
+    ensures { result ≤ 2 * lists }
+{
+    if lists > 1 {
+        lists.saturating_mul(2)
+    } else {
+        lists
+    }
+}
+
+/// Whether events may be filled in for the next line, after so many lines in a row were refused. If there
+/// are several lists, a line of another list may say what the next line lacks, so that is tried first.
+fn may_fill_in(refused: usize, lists: usize) -> bool {
+    lists <= 1 || refused >= lists
+}
+
 /// Takes the next line of a list, if it is allowed. Returns whether a line was taken.
 fn take_next<B: BufRead>(
     alloc: Global,
     first_line: &[u8],
+    number: usize,
+    fills: bool,
     list: &mut Lines<B>,
     judge: &mut Judge,
 ) -> Result<bool, Stop>
@@ -164,7 +187,11 @@ fn take_next<B: BufRead>(
     if !list.has_next()? {
         return Ok(false);
     }
-    match take_line(alloc, first_line, &list.line, judge) {
+    let place = Place {
+        list: number,
+        line: list.number,
+    };
+    match take_line(alloc, first_line, place, fills, &list.line, judge) {
         Ok(()) => {
             list.pass();
             Ok(true)
@@ -178,12 +205,19 @@ fn take_next<B: BufRead>(
 }
 
 /// Takes a line after the first one. A line that says again how the cluster starts says no event.
-fn take_line(alloc: Global, first_line: &[u8], line: &[u8], judge: &mut Judge) -> Result<(), Fault>
+fn take_line(
+    alloc: Global,
+    first_line: &[u8],
+    place: Place,
+    fills: bool,
+    line: &[u8],
+    judge: &mut Judge,
+) -> Result<(), Fault>
     ensures taken { OnOk result (Judges number_tests first_line.now (line.now ∷ []) judge.old judge.new) }
     ensures broken { IfErr result (λ fault. IsBroken fault →
         Judges number_tests first_line.now [] judge.old judge.new) }
 {
-    match judge.take(alloc, line) {
+    match judge.take(alloc, place, fills, line) {
         Ok(()) => Ok(()),
         Err(Fault::Malformed) => {
             if say_one_start(alloc, first_line, line)? {
@@ -208,20 +242,25 @@ fn are_ended<B: BufRead>(lists: &[Lines<B>]) -> bool
     true
 }
 
-/// Writes the line that each list waits with, and why. The list that waits longest comes first.
+/// Writes the line that each list waits with, why, and which line it contradicts. The list that waits longest comes first.
 /// Returns the exit status.
-fn push_waiting<B>(alloc: Global, answer: &mut String, lists: &[Lines<B>]) -> Result<u8, AllocError>
+fn push_waiting<B>(
+    alloc: Global,
+    answer: &mut String,
+    lists: &[Lines<B>],
+    judge: &Judge,
+) -> Result<u8, AllocError>
     ensures { IfOk result (λ status. 0 < status) }
 {
     let longest = longest_waiting(lists);
     for (i, list) in lists.iter().enumerate() {
         if i == longest {
-            push_wait(alloc, answer, list)?;
+            push_wait(alloc, answer, lists, judge, list)?;
         }
     }
     for (i, list) in lists.iter().enumerate() {
         if i != longest {
-            push_wait(alloc, answer, list)?;
+            push_wait(alloc, answer, lists, judge, list)?;
         }
     }
     Ok(1)
@@ -242,11 +281,18 @@ fn longest_waiting<B>(lists: &[Lines<B>]) -> usize {
     longest
 }
 
-/// Writes the line that a list waits with, and why, if it waits.
-fn push_wait<B>(alloc: Global, answer: &mut String, list: &Lines<B>) -> Result<(), AllocError> {
+/// Writes the line that a list waits with, why, and which line it contradicts, if it waits.
+fn push_wait<B>(
+    alloc: Global,
+    answer: &mut String,
+    lists: &[Lines<B>],
+    judge: &Judge,
+    list: &Lines<B>,
+) -> Result<(), AllocError> {
     if let Some(wait) = list.wait {
         list.push_place(answer)?;
         push_fault(alloc, answer, &list.line, false, wait.fault)?;
+        push_why(alloc, answer, lists, judge, &list.line, wait.fault)?;
     }
     Ok(())
 }

@@ -42,7 +42,7 @@ const ROWS: [(&str, u8, &str); 18] = [
         r#"{"event":"granted","server":2,"term":2,"candidate":3}"#,
         1,
         "line 9: server 2 votes in term 2 for 3: the candidate's log is not as up to date as the \
-            server's\n",
+            server's\n  line 8: server 3 campaigns in term 2\n",
     ),
     (
         r#"{"event":"committed","leader":1,"term":1,"index":2}"#,
@@ -60,7 +60,8 @@ const ROWS: [(&str, u8, &str); 18] = [
     (
         r#"{"event":"restarted","server":1,"index":1}"#,
         1,
-        "line 9: server 1 restarts with index 1: the server has lost durable entries\n",
+        "line 9: server 1 restarts with index 1: the server has lost durable entries\n  line 6: server 1 \
+            acknowledges index 2 to 1 in term 1\n",
     ),
     (
         r#"{"event":"restarted","server":1,"index":0}"#,

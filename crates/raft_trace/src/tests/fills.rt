@@ -4,7 +4,7 @@ use super::is_answered;
 use std::test::Fail;
 
 /// Lines after those of `LED`, and the status and the answer.
-const ROWS: [(&str, u8, &str); 12] = [
+const ROWS: [(&str, u8, &str); 17] = [
     // A line of the leader is lost, or is there twice.
     (
         r#"{"event":"wrote","leader":1,"term":1,"index":4,"content":8}"#,
@@ -103,6 +103,41 @@ const ROWS: [(&str, u8, &str); 12] = [
         1,
         "line 9: server 2 restarts with index 2: the server's log is a prefix of neither its earlier log \
             nor the leader's log\n",
+    ),
+    // The answer names the line that the refused one contradicts: a vote, a campaign, or an entry.
+    (
+        r#"{"event":"campaigned","server":2,"term":2}
+{"event":"granted","server":1,"term":2,"candidate":2}
+{"event":"granted","server":1,"term":2,"candidate":3}"#,
+        1,
+        "line 11: server 1 votes in term 2 for 3: the server has reached or passed the term already\n  \
+            line 10: server 1 votes in term 2 for 2\n",
+    ),
+    (
+        r#"{"event":"granted","server":3,"term":1,"candidate":1}"#,
+        1,
+        "line 9: server 3 votes in term 1 for 1: the server has reached or passed the term already\n  \
+            line 8: server 3 campaigns in term 2\n",
+    ),
+    (
+        r#"{"event":"campaigned","server":"b","term":3}
+{"event":"campaigned","server":"b","term":2}"#,
+        1,
+        "line 10: server \"b\" campaigns in term 2: the server has reached or passed the term already\n  \
+            line 9: server \"b\" campaigns in term 3\n",
+    ),
+    (
+        r#"{"event":"appended","server":4,"term":1,"leader":1,"prev":1,"entries":[[1,8]]}"#,
+        1,
+        "line 9: server 4 takes entries after index 1 from 1 in term 1: the server's log is a prefix of \
+            neither its earlier log nor the leader's log\n  line 4: leader 1 writes index 2 in term 1\n",
+    ),
+    (
+        r#"{"event":"appended","server":4,"term":1,"leader":1,"prev":1,"entries":[]}
+{"event":"acked","server":4,"term":1,"leader":1,"index":2}"#,
+        1,
+        "line 10: server 4 acknowledges index 2 to 1 in term 1: the server has not kept the leader's \
+            entries since the term\n  line 4: leader 1 writes index 2 in term 1\n",
     ),
 ];
 
