@@ -1,5 +1,5 @@
 //! Judges a recorded run, which is one list of lines or several.
-ghost use Rattle.std.specs.Prelude.{◌≡◌, ◌<◌, [], ◌∷◌, ℕ, List, IfErr, IfOk, IsTrue, OnOk, Some, map};
+ghost use Rattle.std.specs.Prelude.{◌≡◌, ◌*◌, ◌<◌, ◌≤◌, [], ◌∷◌, ℕ, List, IfErr, IfOk, IsTrue, OnOk, Some, map};
 ghost use Rattle.std.specs.List.{All};
 ghost use Rattle.raft_trace.specs.Input.{lines_left};
 ghost use Rattle.raft_trace.specs.Lists.{AreSafe, Begins, Judges, JudgesNext, JudgesSome};
@@ -157,7 +157,9 @@ fn take_lines<B: BufRead>(
 
 /// Returns how many lines in a row are refused before a run is judged no further. If there are several
 /// lists, the next line of each is tried twice.
-fn tries(lists: usize) -> usize {
+fn tries(lists: usize) -> usize
+    ensures { result ≤ 2 * lists }
+{
     if lists > 1 {
         lists.saturating_mul(2)
     } else {
