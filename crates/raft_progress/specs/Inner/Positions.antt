@@ -22,14 +22,15 @@ pub record AreInverse (positions ranks : List ℕ) : Type 0 where
   pub forth : (p : ℕ) → p < length ranks → (get_or ranks p 0 < length positions)
       × (get_or positions (get_or ranks p 0) 0 ≡ p)
 
--- a look-up returns the position of each id of the list, and none for any other id
-pub record TellsPositions {ID : Type 0} (eq : ID → ID → Bool) (ids : List ID)
+-- each id of the list is at the position that a look-up returns, which returns none for any other id
+pub record AreAtPositions {ID : Type 0} (eq : ID → ID → Bool) (ids : List ID)
     (found : ID → Option ℕ) : Type 0 where
   pub here : (x : ID) (k : ℕ) → k < length ids → eq x (get_or ids k x) ≡ true → found x ≡ Some k
   pub unknown : (x : ID) → is_member eq ids x ≡ false → found x ≡ None
 
--- a look-up returns the positions from before the entry at `last` was moved up to `first`
-pub record TellsPositionsBefore {ID : Type 0} (eq : ID → ID → Bool) (ids : List ID) (first last : ℕ)
+-- each id was at the position that a look-up returns, before the entry at `last` was moved up to
+-- `first`
+pub record WereAtPositions {ID : Type 0} (eq : ID → ID → Bool) (ids : List ID) (first last : ℕ)
     (found : ID → Option ℕ) : Type 0 where
   pub before : (x : ID) (k : ℕ) → k < length ids → eq x (get_or ids k x) ≡ true → k < first
       → found x ≡ Some k

@@ -6,7 +6,7 @@ ghost use Rattle.std.specs.List.Sorted.{IsStrictlySortedBy};
 ghost use Rattle.std.specs.Map.{keys_of, values_of};
 ghost use Rattle.std.specs.Option.{ForSome, option_map};
 ghost use Rattle.std.proofs.Props.{props};
-ghost use Rattle.raft_progress.specs.Inner.Positions.{AreAllPositions, AreInverse, TellsPositions, position_in, position_after};
+ghost use Rattle.raft_progress.specs.Inner.Positions.{AreAllPositions, AreAtPositions, AreInverse, position_after, position_in};
 
 use std::alloc::{AllocError, Global};
 
@@ -35,8 +35,8 @@ impl<ID: Copy + Ord> Positions<ID> {
     /// Returns the positions of the ids of a progress, or an allocation error.
     pub(crate) fn of<V>(alloc: Global, entries: &[(ID, V)]) -> Result<Self, AllocError>
         requires { IsDistinct ID.eq (keys_of entries.now) }
-        ensures tells { IfOk result (λ positions.
-            TellsPositions ID.eq (keys_of entries.now) (position_in ID.eq positions.sorted.items)) }
+        ensures at_positions { IfOk result (λ positions.
+            AreAtPositions ID.eq (keys_of entries.now) (position_in ID.eq positions.sorted.items)) }
         ensures one_length { IfOk result (λ positions. length positions.ranks.items ≡ length
             entries.now) }
     {
@@ -67,7 +67,7 @@ impl<ID: Copy + Ord> Positions<ID> {
     #[inline(always)]
     pub(crate) fn find<V>(&self, entries: &[(ID, V)], id: &ID) -> Option<usize>
         requires { self.now.stale ≡ false →
-            TellsPositions ID.eq (keys_of entries.now) (position_in ID.eq self.now.sorted.items) }
+            AreAtPositions ID.eq (keys_of entries.now) (position_in ID.eq self.now.sorted.items) }
         ensures { result ≡ position (λ e. ID.eq id.now e.0) entries.now }
     {
         if self.stale {
@@ -175,8 +175,8 @@ fn sorted_ids<ID: Copy + Ord, V>(
 ) -> Result<Vec<(ID, usize)>, AllocError>
     requires { IsDistinct ID.eq (keys_of entries.now) }
     ensures ascending { IfOk result (λ sorted. IsStrictlySortedBy ID.cmp (keys_of sorted.items)) }
-    ensures tells { IfOk result (λ sorted.
-        TellsPositions ID.eq (keys_of entries.now) (position_in ID.eq sorted.items)) }
+    ensures at_positions { IfOk result (λ sorted.
+        AreAtPositions ID.eq (keys_of entries.now) (position_in ID.eq sorted.items)) }
     ensures positions { IfOk result (λ sorted. AreAllPositions (values_of sorted.items)) }
     ensures one_length { IfOk result (λ sorted. length sorted.items ≡ length entries.now) }
 {

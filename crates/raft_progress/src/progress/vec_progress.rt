@@ -2,7 +2,7 @@
 ghost use Rattle.std.specs.Prelude.{◌≡◌, ◌≤◌, ◌<◌, false, length};
 ghost use Rattle.std.specs.Map.{keys_of};
 ghost use Rattle.std.proofs.Props.{props};
-ghost use Rattle.raft_progress.specs.Inner.Positions.{TellsPositions, position_in};
+ghost use Rattle.raft_progress.specs.Inner.Positions.{AreAtPositions, position_in};
 
 mod ack;
 mod clone;
@@ -42,7 +42,7 @@ pub struct VecProgress<ID: Copy + Ord, V, P, QS> {
     ghost voters_fit: { voter_count ≤ length entries.items },
     ghost scratch_fits: { length scratch.items ≡ voter_count },
     ghost agree: { positions.stale ≡ false →
-        TellsPositions ID.eq (keys_of entries.items)
+        AreAtPositions ID.eq (keys_of entries.items)
         (position_in ID.eq positions.sorted.items) } by { Prim.hlevel props },
 }
 
@@ -151,8 +151,8 @@ impl<ID: Copy + Ord, V: ProgressPart<P>, P: Copy + Ord, QS: QuorumSet<ID>> VecPr
     }
 
     /// Whether the sorted list has the ids at their positions, so that no id is repeated. A short
-    /// stale list is not asked, because it may have other positions.
-    fn tells_ids(&self) -> bool
+    /// stale list is not compared, because it may have other positions.
+    fn has_right_positions(&self) -> bool
         ensures { IsTrue result → IsDistinct ID.eq (keys_of (view self.now).entries) }
     {
         (!self.positions.stale || self.entries.len() > FEW) && self.positions.are_of(&self.entries)
@@ -232,8 +232,8 @@ impl<ID: Copy + Ord, V: ProgressPart<P>, P: Copy + Ord, QS: QuorumSet<ID>> Progr
     }
 
     fn is_in_order(&mut self) -> bool {
-        let told = self.tells_ids();
-        if !are_ids_distinct(told, &self.entries, self.voter_count, &mut self.scratch) {
+        let known = self.has_right_positions();
+        if !are_ids_distinct(known, &self.entries, self.voter_count, &mut self.scratch) {
             return false;
         }
         let voters = &self.entries[..self.voter_count];

@@ -50,7 +50,7 @@ use Rattle.raft_members.specs.membership.Members.{MemberList, members_of}
 use Rattle.raft_members.proofs.CallerLemmas.{is_member-alike}
 use Rattle.raft_members.proofs.lemmas.quorum.LeastLemmas.{majority_least}
 use Rattle.raft_members.proofs.lemmas.quorum.MajorityLemmas.{flipped, majority_count}
-use Rattle.raft_progress.specs.Inner.Positions.{AreInverse, TellsPositions, position_in}
+use Rattle.raft_progress.specs.Inner.Positions.{AreAtPositions, AreInverse, position_in}
 use Rattle.raft_progress.specs.Inner.Recount.{prefix_test}
 use Rattle.raft_progress.specs.Inner.Sides.{AreKnownIds, AreSidesOf, AreSidesOfMembers, IsShortestWith, IsSideOf}
 use Rattle.raft_progress.specs.declared.progress.sides.Side.{Side}
@@ -133,16 +133,16 @@ place_of {K} eq (y ∷ ks) x m = by (eq x y) refl m (place_of eq ks x)
 
 module _ {K : Type 0} {eq : K → K → Bool} (laws : IsEquivalence eq) where
   -- a list of positions that agrees with the ids has their members
-  pub told_members : (ids : List K) (found : K → Option ℕ) → TellsPositions eq ids found → (x : K)
+  pub found_members : (ids : List K) (found : K → Option ℕ) → AreAtPositions eq ids found → (x : K)
       → is_some (found x) ≡ is_member eq ids x
-  told_members ids found t x = by (is_member eq ids x) refl
+  found_members ids found t x = by (is_member eq ids x) refl
     where
       by : (b : Bool) → is_member eq ids x ≡ b → is_some (found x) ≡ b
       by true m = let p = place_of eq ids x m in ap is_some (t.here x p.0 p.1 p.2)
       by false m = ap is_some (t.unknown x m)
 
   module _ (es : List (K × ℕ)) (ranks : List ℕ) (inverse : AreInverse (values_of es) ranks) (ids : List K)
-      (tells : TellsPositions eq ids (position_in eq es)) where
+      (tells : AreAtPositions eq ids (position_in eq es)) where
     -- the rank of each position leads to the id there
     ranked : (k : ℕ) (d e : K) → k < length ids
         → (get_or ranks k 0 < length (keys_of es)) × (eq (get_or ids k d) (get_or (keys_of es) (get_or ranks k 0) e) ≡ true)
@@ -245,10 +245,10 @@ module _ {K : Type 0} {eq : K → K → Bool} (laws : IsEquivalence eq) where
       omega arith
 
   -- the ids of the positions are those of the entries
-  pub known_ids : {V : Type 0} (es : List (K × ℕ)) (entries : List (K × V)) → TellsPositions eq (keys_of entries) (position_in eq es)
+  pub known_ids : {V : Type 0} (es : List (K × ℕ)) (entries : List (K × V)) → AreAtPositions eq (keys_of entries) (position_in eq es)
       → (x : K) → is_member eq (keys_of es) x ≡ is_some (lookup (eq x) entries)
   known_ids es entries t x =
-      sym (is_some-lookup (eq x) es) ∙ told_members (keys_of entries) (position_in eq es) t x ∙ sym (is_some-lookup (eq x) entries)
+      sym (is_some-lookup (eq x) es) ∙ found_members (keys_of entries) (position_in eq es) t x ∙ sym (is_some-lookup (eq x) entries)
 
 -- ---- two lists of the same ids, ascending
 
@@ -384,7 +384,7 @@ sides_of_members eq cmp m sides fit configs h ids known = record {
 -- and those of a ready progress
 pub sides_ready : {K N V P : Type 0} {eq : K → K → Bool} (laws : IsEquivalence eq) (id_cmp : K → K → Ordering) (cmp : P → P → Ordering)
     (part : V → P) (t : TrackedView K N V P) → IsReady eq id_cmp cmp part t → (es : List (K × ℕ)) → IsStrictlySortedBy id_cmp (keys_of es)
-    → TellsPositions eq (keys_of t.progress.entries) (position_in eq es) → (sides : Sides) → AreSidesOfMembers eq id_cmp t.membership sides
+    → AreAtPositions eq (keys_of t.progress.entries) (position_in eq es) → (sides : Sides) → AreSidesOfMembers eq id_cmp t.membership sides
     → AreSidesOf eq (has_quorum eq t.progress.quorum_set) (keys_of es) sides
 sides_ready {eq = eq} laws id_cmp cmp part t ready es ascending tells sides fit =
     sides_of_members eq id_cmp t.membership sides fit t.progress.quorum_set ready.counts_by.configs (keys_of es)

@@ -24,7 +24,7 @@ use Rattle.std.proofs.lemmas.Map.Entries.{length-keys_of}
 use Rattle.std.proofs.lemmas.Map.Keys.{IsDistinct-IsPermutation, IsDistinct-from_apart, apart_from_distinct, sorted_from_all_adjacent}
 use Rattle.std.proofs.lemmas.Map.Made.{is_some-lookup}
 use Rattle.std.proofs.lemmas.Map.Views.{lookup-from_Contains}
-use Rattle.raft_progress.specs.Inner.Positions.{AreAllPositions, AreInverse, TellsPositions}
+use Rattle.raft_progress.specs.Inner.Positions.{AreAllPositions, AreAtPositions, AreInverse}
 use Rattle.raft_progress.proofs.lemmas.progress.positions.LookupLemmas.{key_at, lookup_tests}
 
 -- within a list the default does not matter
@@ -155,8 +155,8 @@ module _ {ID : Type 0} {eq : ID → ID → Bool} {cmp : ID → ID → Ordering} 
         subst (λ vs. IsPermutation vs (values_of es)) (positions ∙ ap (range_with_len 0) (sym (length-map es (λ e. e.1) ∙ length_moved)))
         (IsPermutation-map (λ e. e.1) made es moved)
 
-    pub tells_moved : TellsPositions eq ids (λ x. lookup (eq x) es)
-    tells_moved = record { here = here; unknown = unknown }
+    pub found_moved : AreAtPositions eq ids (λ x. lookup (eq x) es)
+    found_moved = record { here = here; unknown = unknown }
       where
         here : (x : ID) (k : ℕ) → k < length ids → eq x (get_or ids k x) ≡ true → lookup (eq x) es ≡ Some k
         here x k l at =

@@ -33,7 +33,7 @@ use Rattle.std.proofs.lemmas.Map.Entries.{length-keys_of, place_from_lookup}
 use Rattle.std.proofs.lemmas.Map.Keys.{IsDistinct-from_apart, apart_from_distinct}
 use Rattle.std.proofs.lemmas.Map.Made.{is_some-lookup}
 use Rattle.std.specs.declared.cmp.Ordering.{Ordering}
-use Rattle.raft_progress.specs.Inner.Positions.{TellsPositions, AreInverse, TellsPositionsBefore, position_after, position_in}
+use Rattle.raft_progress.specs.Inner.Positions.{AreAtPositions, AreInverse, WereAtPositions, position_after, position_in}
 use Rattle.raft_progress.specs.Inner.Rises.{Passed}
 use Rattle.raft_progress.proofs.lemmas.progress.positions.MadeLemmas.{position_at}
 use Rattle.raft_progress.proofs.lemmas.progress.entries.MovedLemmas.{member_moved}
@@ -119,7 +119,7 @@ module _ {ID : Type 0} {eq : ID → ID → Bool} (laws : IsEquivalence eq) where
           by' false t h = let u = ltb-false k i t in absurd (n (omega arith))
 
   -- the list of positions has what a search of the entries finds
-  pub position_is : {V : Type 0} (entries : List (ID × V)) (found : ID → Option ℕ) → TellsPositions eq (keys_of entries) found → (id : ID)
+  pub position_is : {V : Type 0} (entries : List (ID × V)) (found : ID → Option ℕ) → AreAtPositions eq (keys_of entries) found → (id : ID)
       → found id ≡ position (λ (e : ID × V). eq id e.0) entries
   position_is [] found t id = t.unknown id refl
   position_is {V} (e ∷ es) found t id = by (position (λ (f : ID × V). eq id f.0) (e ∷ es)) refl
@@ -132,10 +132,10 @@ module _ {ID : Type 0} {eq : ID → ID → Bool} (laws : IsEquivalence eq) where
 
   -- a position from before a move is one from which the move leads to the present position
   module _ (ids : List ID) (first last : ℕ) (up : first ≤ last) (found : ID → Option ℕ)
-      (t : TellsPositionsBefore eq ids first last found) where
-    told_before : (x : ID) (k : ℕ) → k < length ids → eq x (get_or ids k x) ≡ true
+      (t : WereAtPositions eq ids first last found) where
+    found_before : (x : ID) (k : ℕ) → k < length ids → eq x (get_or ids k x) ≡ true
         → (j : ℕ) × (found x ≡ Some j) × (position_after first last j ≡ k)
-    told_before x k l at = by (ltb k first) refl (ltb last k) refl
+    found_before x k l at = by (ltb k first) refl (ltb last k) refl
       where
         within : (k : ℕ) → k < length ids → eq x (get_or ids k x) ≡ true → first ≤ k → k ≤ last
             → (j : ℕ) × (found x ≡ Some j) × (position_after first last j ≡ k)
@@ -160,17 +160,17 @@ module _ {ID : Type 0} {eq : ID → ID → Bool} (laws : IsEquivalence eq) where
         by false u false v = within k l at (ltb-false k first u) (ltb-false last k v)
 
     -- a list of positions that is updated with the move has the present positions
-    pub tells_after : (found' : ID → Option ℕ) → ((x : ID) → found' x ≡ option_map (position_after first last) (found x))
-        → TellsPositions eq ids found'
-    tells_after found' is = record {
-      here = λ x k l at. let r = told_before x k l at in is x ∙ ap (option_map (position_after first last)) r.1
+    pub found_after : (found' : ID → Option ℕ) → ((x : ID) → found' x ≡ option_map (position_after first last) (found x))
+        → AreAtPositions eq ids found'
+    found_after found' is = record {
+      here = λ x k l at. let r = found_before x k l at in is x ∙ ap (option_map (position_after first last)) r.1
           ∙ ap (λ (n : ℕ). Some n) r.2;
       unknown = λ x m. is x ∙ ap (option_map (position_after first last)) (t.unknown x m);
     }
 
   -- an entry has moved up, and the list has the positions from before
   module _ {V : Type 0} (prefix passed : List (ID × V)) (e : ID × V) (rest : List (ID × V)) (found : ID → Option ℕ)
-      (t : TellsPositions eq (keys_of (prefix ++ (passed ++ (e ∷ rest)))) found) where
+      (t : AreAtPositions eq (keys_of (prefix ++ (passed ++ (e ∷ rest)))) found) where
     abbrev Old : List ID
     Old = keys_of (prefix ++ (passed ++ (e ∷ rest)))
 
@@ -242,7 +242,7 @@ module _ {ID : Type 0} {eq : ID → ID → Bool} (laws : IsEquivalence eq) where
         ∙ get_or-append-add (keys_of prefix) (keys_of passed ++ (e.0 ∷ keys_of rest)) j x
         ∙ get_or_append_left (keys_of passed) (e.0 ∷ keys_of rest) x j near)
 
-    pub before_move : TellsPositionsBefore eq New (length prefix) (length prefix + length passed) found
+    pub before_move : WereAtPositions eq New (length prefix) (length prefix + length passed) found
     before_move =
         let a = length-append (keys_of prefix) (keys_of passed ++ (e.0 ∷ keys_of rest)) in
         let b = length-append (keys_of passed) (e.0 ∷ keys_of rest) in
@@ -259,26 +259,26 @@ module _ {ID : Type 0} {eq : ID → ID → Bool} (laws : IsEquivalence eq) where
         }
 
   pub before_passed : {V P : Type 0} (cmp : P → P → Ordering) (part : V → P) (old : List (ID × V)) (from : ℕ) (new : List (ID × V)) (to : ℕ)
-      → Passed cmp part old from new to → (found : ID → Option ℕ) → TellsPositions eq (keys_of old) found
-      → TellsPositionsBefore eq (keys_of new) to from found
+      → Passed cmp part old from new to → (found : ID → Option ℕ) → AreAtPositions eq (keys_of old) found
+      → WereAtPositions eq (keys_of new) to from found
   before_passed {V} {P} cmp part old from new to p found t =
       let b = before_move p.prefix p.passed p.entry p.rest found
-      (subst (λ (es : List (ID × V)). TellsPositions eq (keys_of es) found) p.was t) in
-      subst (λ (es : List (ID × V)). TellsPositionsBefore eq (keys_of es) to from found) (sym p.now)
-      (subst (λ (n : ℕ). TellsPositionsBefore eq (keys_of (p.prefix ++ (p.entry ∷ (p.passed ++ p.rest)))) n from found) p.now_at
-      (subst (λ (n : ℕ). TellsPositionsBefore eq (keys_of (p.prefix ++ (p.entry ∷ (p.passed ++ p.rest))))
+      (subst (λ (es : List (ID × V)). AreAtPositions eq (keys_of es) found) p.was t) in
+      subst (λ (es : List (ID × V)). WereAtPositions eq (keys_of es) to from found) (sym p.now)
+      (subst (λ (n : ℕ). WereAtPositions eq (keys_of (p.prefix ++ (p.entry ∷ (p.passed ++ p.rest)))) n from found) p.now_at
+      (subst (λ (n : ℕ). WereAtPositions eq (keys_of (p.prefix ++ (p.entry ∷ (p.passed ++ p.rest))))
       (length p.prefix) n found) p.was_at b))
 
   -- the same ids, and a list with the same positions
-  pub tells_alike : (ids ids' : List ID) (found found' : ID → Option ℕ) → ids' ≡ ids → ((x : ID) → found' x ≡ found x)
-      → TellsPositions eq ids found → TellsPositions eq ids' found'
-  tells_alike ids ids' found found' same is t =
-      subst (λ (ks : List ID). TellsPositions eq ks found') (sym same) record
+  pub found_alike : (ids ids' : List ID) (found found' : ID → Option ℕ) → ids' ≡ ids → ((x : ID) → found' x ≡ found x)
+      → AreAtPositions eq ids found → AreAtPositions eq ids' found'
+  found_alike ids ids' found found' same is t =
+      subst (λ (ks : List ID). AreAtPositions eq ks found') (sym same) record
       { here = λ x k l h. is x ∙ t.here x k l h; unknown = λ x m. is x ∙ t.unknown x m }
 
   -- each position in the list has a rank
   pub position_ranked : (es : List (ID × ℕ)) (ranks : List ℕ) → AreInverse (values_of es) ranks → (ids : List ID) (k : ℕ) → k < length ids
-      → TellsPositions eq ids (position_in eq es) → k < length ranks
+      → AreAtPositions eq ids (position_in eq es) → k < length ranks
   position_ranked es ranks a [] k l t = absurd (omega arith)
   position_ranked es ranks a (i ∷ ids) k l t =
       let x = get_or (i ∷ ids) k i in
@@ -290,10 +290,10 @@ module _ {ID : Type 0} {eq : ID → ID → Bool} (laws : IsEquivalence eq) where
       omega arith
 
   -- if the rank of each position leads to the id there, no id is repeated
-  pub distinct_if_told : (es : List (ID × ℕ)) (ranks : List ℕ) → AreInverse (values_of es) ranks → IsDistinct eq (keys_of es)
+  pub distinct_if_found : (es : List (ID × ℕ)) (ranks : List ℕ) → AreInverse (values_of es) ranks → IsDistinct eq (keys_of es)
       → (ids : List ID) → length ranks ≡ length ids
       → ((p : ℕ) (d e : ID) → p < length ids → eq (get_or (keys_of es) (get_or ranks p 0) d) (get_or ids p e) ≡ true) → IsDistinct eq ids
-  distinct_if_told es ranks a distinct ids same told =
+  distinct_if_found es ranks a distinct ids same told =
       IsDistinct-from_apart eq ids
       (λ i j d o m.
       let n = length-keys_of es in

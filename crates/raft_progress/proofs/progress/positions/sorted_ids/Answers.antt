@@ -8,9 +8,9 @@ use Rattle.raft_progress.proofs.lemmas.progress.positions.LookupLemmas.{key_at}
 use Rattle.raft_progress.proofs.lemmas.progress.positions.MadeLemmas.{
   ascending_from_sorted,
   distinct_moved,
+  found_moved,
   length_moved,
   positions_moved,
-  tells_moved,
   range_more,
 }
 use Rattle.raft_progress.proofs.progress.positions.sorted_ids.Goals as goal
@@ -50,7 +50,7 @@ returns g c =
     record {
       ascending = ascending_from_sorted g.met.ID.Eq.laws g.met.ID.Ord.total g.met.ID.Ord.matches_eq es distinct
           (c.sort_unstable_by_key.ensures.sorted (λ e. e.0) (always_returns_same _ _ _ (λ a r q k. search rules)));
-      tells = tells_moved g.met.ID.Eq.laws g.met.ID.Ord.total g.met.ID.Ord.matches_eq
+      at_positions = found_moved g.met.ID.Eq.laws g.met.ID.Ord.total g.met.ID.Ord.matches_eq
           (keys_of entries) made es c.requires ids positions moved;
       positions = positions_moved g.met.ID.Eq.laws g.met.ID.Ord.total g.met.ID.Ord.matches_eq
           (keys_of entries) made es c.requires ids positions moved;

@@ -3,7 +3,7 @@ use Rattle.std.specs.List.{AllZip}
 use Rattle.std.specs.Map.{keys_of, lookup}
 use Rattle.raft_progress.specs.Inner.Positions.{position_in}
 use Rattle.raft_progress.proofs.lemmas.progress.CloneLemmas.{same_ids, same_length}
-use Rattle.raft_progress.proofs.lemmas.progress.positions.PositionsLemmas.{tells_alike}
+use Rattle.raft_progress.proofs.lemmas.progress.positions.PositionsLemmas.{found_alike}
 use Rattle.raft_progress.proofs.progress.vec_progress.VecProgress.clone_over.Goals as goal
 
 pub returns : goal.returns
@@ -29,7 +29,7 @@ invariant_of-result g c = record {
       let same : keys_of c.in_ok-clone_entries.field-0.items ≡ keys_of c.args.self.now.entries.items =
       same_ids g.V.Clone.is_clone c.deref.result.now c.in_ok-clone_entries.field-0.items c.in_ok-clone_entries.ensures
       ∙ ap keys_of c.deref.ensures.value in
-      tells_alike g.met.ID.Eq.laws (keys_of c.args.self.now.entries.items) (keys_of c.in_ok-clone_entries.field-0.items)
+      found_alike g.met.ID.Eq.laws (keys_of c.args.self.now.entries.items) (keys_of c.in_ok-clone_entries.field-0.items)
       (position_in g.ID.PartialEq.eq c.args.self.now.positions.sorted.items)
       (position_in g.ID.PartialEq.eq c.in_ok-try_clone.field-0.sorted.items) same
       (λ x. ap (lookup (g.ID.PartialEq.eq x)) c.in_ok-try_clone.ensures.sorted)

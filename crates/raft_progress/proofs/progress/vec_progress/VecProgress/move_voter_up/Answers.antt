@@ -4,10 +4,10 @@ use Rattle.std.proofs.lemmas.Map.Entries.{length-keys_of}
 use Rattle.raft_progress.specs.Inner.Positions.{position_in}
 use Rattle.raft_progress.proofs.lemmas.progress.positions.PositionsLemmas.{
   before_passed,
+  found_after,
   passed_length,
-  same_unless_passed,
   position_ranked,
-  tells_after,
+  same_unless_passed,
 }
 use Rattle.raft_progress.proofs.progress.vec_progress.VecProgress.move_voter_up.Goals as goal
 
@@ -33,7 +33,7 @@ invariant_of-self g c =
       scratch_fits = c.args.self.now.scratch_fits;
       agree = λ fresh.
           let was = sym c.record_move.ensures.stale ∙ fresh in
-          tells_after g.met.ID.Eq.laws (keys_of new) c.move_up-to.result c.args.position (omega arith) old
+          found_after g.met.ID.Eq.laws (keys_of new) c.move_up-to.result c.args.position (omega arith) old
           (before_passed g.met.ID.Eq.laws g.P.Ord.cmp g.V.ProgressPart.part_of c.args.self.now.entries.items c.args.position new
           c.move_up-to.result p old (c.args.self.now.agree was))
           (position_in g.ID.PartialEq.eq c.record_move.new.self.sorted.items) (c.record_move.ensures.shifted was);

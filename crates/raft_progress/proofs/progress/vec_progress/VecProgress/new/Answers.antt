@@ -53,7 +53,7 @@ invariant_of-result g c = record {
       (keys_placed _ _ _ _ _ c.in_ok-entries.ensures.items c.in_ok-append_ids.ensures c.in_ok-append_ids-2.ensures
       ∙ ap (λ ids. ids ++ c.args.learners.now) c.deref.ensures.value) (c.len-voter_count.ensures ∙ c.in_ok-scratch.scratch.ok.0);
   scratch_fits = sym (c.len-voter_count.ensures ∙ c.in_ok-scratch.scratch.ok.0);
-  agree = λ fresh. rw c.deref-2.ensures.value at c.in_ok-positions.ensures.tells;
+  agree = λ fresh. rw c.deref-2.ensures.value at c.in_ok-positions.ensures.at_positions;
 }
 
 pub of-requires : goal.of-requires
