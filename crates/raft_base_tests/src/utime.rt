@@ -8,7 +8,7 @@ use crate::asserts::{assert_call, assert_right, assert_row};
 use raft_base::{Instant, UTime};
 use raft_testing::allocations::{is_free, refuse_each};
 use raft_testing::facts::first_wrong;
-use raft_testing::memory::{equals, holds};
+use raft_testing::memory::{equals, is_yes};
 use std::alloc::{AllocError, Global};
 
 /// Marks a value as updated now, unless it was updated later than that.
@@ -76,7 +76,7 @@ fn is_cloned(alloc: Global) -> Result<bool, AllocError> {
 
 #[test]
 fn values_are_stamped(rt: HostRuntime) {
-    assert_row(&rt, "clones", holds(is_cloned(rt.alloc())));
+    assert_row(&rt, "clones", is_yes(is_cloned(rt.alloc())));
     refuse_each(rt.alloc());
     let wrong = wrong_of_stamped();
     let is_free = is_free(&rt, rt.alloc(), "UTime", wrong.is_none());

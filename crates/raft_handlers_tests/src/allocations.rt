@@ -13,7 +13,7 @@ use raft_handlers::{
 use raft_members::{ChangeMembers, ChangeMembershipErrorOf, StoredMembershipOf};
 use raft_state::SnapshotMetaOf;
 use raft_testing::allocations::{Allocation, is_free, is_free_on, is_swept, refuse_each};
-use raft_testing::memory::holds;
+use raft_testing::memory::is_yes;
 use std::alloc::{AllocError, Global};
 use std::collections::BTreeSet;
 use std::io;
@@ -306,7 +306,7 @@ fn no_allocations(rt: HostRuntime) -> Result<(), Fail> {
     let alloc = rt.alloc();
     for row in ROWS {
         let state = follower::<LeaderAdv>(alloc, None);
-        let vote = |state: &mut State| holds(answers::<LeaderAdv>(state, row));
+        let vote = |state: &mut State| is_yes(answers::<LeaderAdv>(state, row));
         assert!(rt; is_free_on(&rt, alloc, "handle_vote_request", state, vote)?);
     }
     assert!(rt; is_leader_free::<LeaderAdv>(&rt, alloc)?);

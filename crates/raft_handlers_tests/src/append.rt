@@ -8,7 +8,7 @@ use raft_base::{LeaderAdv, LeaderKind, LeaderStd, VoteOf};
 use raft_handlers::{AppendEntries, AppendError, Changes, handle_append_entries};
 use raft_members::EffectiveMembershipOf;
 use raft_state::MembershipStateOf;
-use raft_testing::memory::on;
+use raft_testing::memory::with_made;
 use std::alloc::{AllocError, Global};
 use std::test::Fail;
 
@@ -204,7 +204,7 @@ fn answers<K: LeaderKind<u64>>(
 /// Returns the name of the first row that a follower does not answer as it should.
 fn fails<K: LeaderKind<u64>>(alloc: Global) -> Result<Option<&'static str>, AllocError> {
     for row in ROWS {
-        let is_right = on(
+        let is_right = with_made(
             follower::<K>(alloc, FIRST),
             |state| answers::<K>(state, alloc, row),
         )?;
@@ -261,9 +261,9 @@ fn takes_members<K: LeaderKind<u64>>(
 fn memberships_are_effective_at_once(rt: HostRuntime) -> Result<(), Fail> {
     let alloc = rt.alloc();
     let default = follower::<LeaderAdv>(alloc, None);
-    assert!(rt; on(default, |state| takes_members::<LeaderAdv>(state, alloc)) == Ok(true));
+    assert!(rt; with_made(default, |state| takes_members::<LeaderAdv>(state, alloc)) == Ok(true));
     let standard = follower::<LeaderStd>(alloc, None);
-    assert!(rt; on(standard, |state| takes_members::<LeaderStd>(state, alloc)) == Ok(true));
+    assert!(rt; with_made(standard, |state| takes_members::<LeaderStd>(state, alloc)) == Ok(true));
     Ok(())
 }
 
@@ -281,7 +281,7 @@ fn refusal<K: LeaderKind<u64>>(
 fn memberships_rise(rt: HostRuntime) -> Result<(), Fail> {
     let alloc = rt.alloc();
     let state = follower::<LeaderAdv>(alloc, None);
-    let refused = on(state, |state| refusal::<LeaderAdv>(state, alloc))?;
+    let refused = with_made(state, |state| refusal::<LeaderAdv>(state, alloc))?;
     assert!(rt; refused == Some(AppendError::MembershipNotInOrder));
     Ok(())
 }

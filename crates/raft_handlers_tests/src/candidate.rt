@@ -4,7 +4,7 @@ use crate::asserts::assert_right;
 use crate::states::{StateOf, id, voter};
 use raft_base::{EmptyNode, LeaderAdv, LeaderKind, LeaderStd, VoteOf};
 use raft_handlers::{CampaignError, Candidate, LeadError, Leader, Tally, VoteResponse};
-use raft_testing::memory::on;
+use raft_testing::memory::with_made;
 use std::alloc::{AllocError, Global};
 use std::test::Fail;
 
@@ -127,7 +127,7 @@ fn elects<K: LeaderKind<u64>>(
 /// Returns the name of the first row after which the election stands otherwise.
 fn fails<K: LeaderKind<u64>>(alloc: Global) -> Result<Option<&'static str>, CampaignError> {
     for (name, votes, refused, tally) in ROWS {
-        if !on(
+        if !with_made(
             voter::<K>(alloc),
             |state| elects::<K>(state, *votes, *refused, *tally),
         )? {
@@ -160,7 +160,7 @@ fn campaigns_are_refused(rt: HostRuntime) -> Result<(), Fail> {
         (1, u64::MAX, CampaignError::NoNextTerm),
     ] {
         let state = voter::<LeaderStd>(rt.alloc());
-        let refusal = on(state, |state| refusal::<LeaderStd>(state, node, term))?;
+        let refusal = with_made(state, |state| refusal::<LeaderStd>(state, node, term))?;
         assert!(rt; refusal == Some(refused));
     }
     Ok(())

@@ -5,7 +5,7 @@ use crate::states::{Answer, Row, StateOf, due, follower, id, is_at};
 use raft_base::{EmptyNode, LeaderAdv, LeaderKind, LeaderStd, VoteOf};
 use raft_handlers::{InstallSnapshot, SnapshotChanges, SnapshotError, handle_install_snapshot};
 use raft_state::SnapshotMetaOf;
-use raft_testing::memory::on;
+use raft_testing::memory::with_made;
 use std::alloc::{AllocError, Global};
 use std::test::Fail;
 
@@ -157,7 +157,7 @@ fn answers<K: LeaderKind<u64>>(
 /// Returns the name of the first row that a follower does not answer as it should.
 fn fails<K: LeaderKind<u64>>(alloc: Global) -> Result<Option<&'static str>, AllocError> {
     for row in ROWS {
-        let is_right = on(
+        let is_right = with_made(
             follower::<K>(alloc, FIRST),
             |state| answers::<K>(state, alloc, row),
         )?;

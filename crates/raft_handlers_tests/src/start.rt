@@ -7,7 +7,7 @@ use raft_handlers::{
 };
 use raft_members::Membership;
 use raft_state::SnapshotMetaOf;
-use raft_testing::memory::{both, on};
+use raft_testing::memory::{both_made, with_made};
 use std::alloc::{AllocError, Global};
 use std::collections::{BTreeMap, BTreeSet};
 use std::test::Fail;
@@ -48,9 +48,9 @@ fn starts_once<K: LeaderKind<u64>>(
 fn a_cluster_starts_once(rt: HostRuntime) -> Result<(), Fail> {
     let alloc = rt.alloc();
     let default = StateOf::<LeaderAdv>::try_default(alloc);
-    assert!(rt; on(default, |state| starts_once::<LeaderAdv>(state, alloc)) == Ok(true));
+    assert!(rt; with_made(default, |state| starts_once::<LeaderAdv>(state, alloc)) == Ok(true));
     let standard = StateOf::<LeaderStd>::try_default(alloc);
-    assert!(rt; on(standard, |state| starts_once::<LeaderStd>(state, alloc)) == Ok(true));
+    assert!(rt; with_made(standard, |state| starts_once::<LeaderStd>(state, alloc)) == Ok(true));
     Ok(())
 }
 
@@ -83,7 +83,7 @@ fn a_cluster_needs_voters(rt: HostRuntime) -> Result<(), Fail> {
     let alloc = rt.alloc();
     for has_config in [false, true] {
         let state = StateOf::<LeaderAdv>::try_default(alloc);
-        let refused = on(
+        let refused = with_made(
             state,
             |state| start::<LeaderAdv>(state, 1, no_voter(alloc, has_config)?),
         );
@@ -104,7 +104,7 @@ type StoredOf<K> = Stored<
 /// Three entries on disk, of which all up to (1, 1) is applied.
 fn stored<K: LeaderKind<u64>>(alloc: Global) -> Result<StoredOf<K>, AllocError> {
     let entries = entries::<K>(alloc, &[(1, 0), (1, 1), (2, 2)]);
-    let (snapshot, entries) = both(SnapshotMetaOf::try_default(alloc), entries)?;
+    let (snapshot, entries) = both_made(SnapshotMetaOf::try_default(alloc), entries)?;
     Ok(Stored {
         vote: VoteOf::<u64, K>::new(3, 2),
         snapshot,
@@ -125,8 +125,8 @@ fn restarts<K: LeaderKind<u64>>(alloc: Global, stored: &StoredOf<K>) -> Result<b
 fn a_restart_keeps_vote_and_log(rt: HostRuntime) -> Result<(), Fail> {
     let alloc = rt.alloc();
     let default = stored::<LeaderAdv>(alloc);
-    assert!(rt; on(default, |stored| restarts::<LeaderAdv>(alloc, stored)) == Ok(true));
+    assert!(rt; with_made(default, |stored| restarts::<LeaderAdv>(alloc, stored)) == Ok(true));
     let standard = stored::<LeaderStd>(alloc);
-    assert!(rt; on(standard, |stored| restarts::<LeaderStd>(alloc, stored)) == Ok(true));
+    assert!(rt; with_made(standard, |stored| restarts::<LeaderStd>(alloc, stored)) == Ok(true));
     Ok(())
 }

@@ -4,7 +4,7 @@ use raft_base::{EmptyNode, LeaderKind, LogIdOf, LogStateReader, UTime, VoteOf};
 use raft_handlers::{Outcome, Response, State};
 use raft_members::Membership;
 use raft_state::{EntryOf, EntryPayload, LogIdListOf, is_key_list};
-use raft_testing::memory::both;
+use raft_testing::memory::both_made;
 use std::alloc::{AllocError, Global};
 use std::collections::{BTreeMap, BTreeSet};
 
@@ -98,7 +98,7 @@ fn extend<K: LeaderKind<u64>>(
 /// The server `follower`, with a membership of the voters 1, 2 and 3 at (2, 4), which is effective.
 pub fn voter<K: LeaderKind<u64>>(alloc: Global) -> Result<StateOf<K>, AllocError> {
     let entries = entry_of_members::<K>(alloc, Some((2, 4)));
-    let (mut state, entries) = both(follower::<K>(alloc, None), entries)?;
+    let (mut state, entries) = both_made(follower::<K>(alloc, None), entries)?;
     extend::<K>(&mut state, &entries)?;
     Ok(state)
 }

@@ -4,7 +4,7 @@ use crate::asserts::assert_right;
 use crate::states::{Row, StateOf, follower, id};
 use raft_base::{LeaderAdv, LeaderKind, LeaderStd, VoteOf};
 use raft_handlers::{VoteRequest, VoteResponse, handle_vote_request};
-use raft_testing::memory::on;
+use raft_testing::memory::with_made;
 use std::alloc::{AllocError, Global};
 use std::test::Fail;
 
@@ -69,7 +69,7 @@ pub fn answers<K: LeaderKind<u64>>(
 /// Returns the name of the first row that is not answered as it should be.
 fn fails<K: LeaderKind<u64>>(alloc: Global) -> Result<Option<&'static str>, AllocError> {
     for row in ROWS {
-        if !on(follower::<K>(alloc, None), |state| answers::<K>(state, row))? {
+        if !with_made(follower::<K>(alloc, None), |state| answers::<K>(state, row))? {
             return Ok(Some(row.0));
         }
     }

@@ -9,7 +9,7 @@ use raft_base::MessageSummary;
 use raft_members::quorum::{FindCoherent, QuorumSet};
 use raft_members::{ChangeMembershipError, Membership};
 use raft_testing::allocations::{Allocation, is_compared, is_free_on, is_swept};
-use raft_testing::memory::both;
+use raft_testing::memory::both_made;
 use raft_testing::words::{configs, ids, members, words};
 use std::alloc::{AllocError, Global};
 use std::collections::BTreeSet;
@@ -39,7 +39,7 @@ fn call(
     let alloc = allocation.alloc;
     match kind {
         "new" => {
-            let (configs, learners) = both(configs(alloc, "1,2/2,4"), ids(alloc, list))?;
+            let (configs, learners) = both_made(configs(alloc, "1,2/2,4"), ids(alloc, list))?;
             allocation.refuse();
             Ok(Membership::new(configs, learners)?)
         }
@@ -148,14 +148,14 @@ fn each_answers(list: &Vec<u64>, set: &BTreeSet<u64>) -> bool {
 fn no_allocations_of_quorums(rt: HostRuntime) {
     let alloc = rt.alloc();
     let name = "is_quorum of a joint and of a membership";
-    let held = both(
+    let held = both_made(
         joint(alloc, "1,2,3,4,5/6,7,8"),
         effective(alloc, Some(id()), "1,2,3,4,5/6,7,8", "-"),
     );
     let answer = |held: &mut (Configs, Effective)| all_answered(&held.0, &held.1);
     assert_call(&rt, name, is_free_on(&rt, alloc, name, held, answer));
     let name = "is_quorum of a list and of a set";
-    let held = both([1, 2, 3, 4].to_vec(alloc), ids(alloc, "1,2,3,4"));
+    let held = both_made([1, 2, 3, 4].to_vec(alloc), ids(alloc, "1,2,3,4"));
     let answer = |held: &mut (Vec<u64>, BTreeSet<u64>)| each_answers(&held.0, &held.1);
     assert_call(&rt, name, is_free_on(&rt, alloc, name, held, answer));
 }

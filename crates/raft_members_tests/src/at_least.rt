@@ -4,7 +4,7 @@ use crate::support::asserts::assert_made;
 use crate::support::quorums::has_ids;
 use raft_members::quorum::{AtLeast, QuorumSet};
 use raft_testing::facts::first_wrong;
-use raft_testing::memory::{both, equals};
+use raft_testing::memory::{both_made, equals};
 use raft_testing::printing::displays;
 use raft_testing::words::{list, number, words};
 use std::alloc::{AllocError, Global};
@@ -31,7 +31,7 @@ const ROWS: &str = "
 fn wrong_set(alloc: Global, row: &str) -> Result<Option<&'static str>, AllocError> {
     let (row, text) = row.split_once(" | ").unwrap_or((row, ""));
     let [given, need, asked, answer, shown, ..] = words(row);
-    let (given, asked) = both(list(alloc, given), list(alloc, asked))?;
+    let (given, asked) = both_made(list(alloc, given), list(alloc, asked))?;
     let need = (number(need) as usize).max(1);
     let set = AtLeast::new(alloc, given.as_slice(), need)?;
     Ok(first_wrong(&[

@@ -4,7 +4,7 @@ use crate::support::asserts::assert_made;
 use crate::support::quorums::{BorrowedConfigs, Configs, joint};
 use raft_members::quorum::{AsJoint, Coherent, FindCoherent};
 use raft_testing::facts::first_wrong;
-use raft_testing::memory::{are_equal, both, equals};
+use raft_testing::memory::{are_equal, both_made, equals};
 use raft_testing::words::{list, words};
 use std::alloc::{AllocError, Global};
 
@@ -30,7 +30,7 @@ fn are_coherent(these: &Configs, others: &Configs, want: bool) -> bool {
 /// Returns what is wrong of the joints of a row.
 fn wrong_joint(alloc: Global, row: &str) -> Result<Option<&'static str>, AllocError> {
     let [these, others, shares_child, goal, has_goal, next, ..] = words(row);
-    let (these, others) = both(joint(alloc, these), joint(alloc, others))?;
+    let (these, others) = both_made(joint(alloc, these), joint(alloc, others))?;
     let goal = list(alloc, goal)?;
     let is_child: bool = these.is_coherent_with(&goal);
     let is_next = are_equal(these.find_coherent(alloc, goal), joint(alloc, next));

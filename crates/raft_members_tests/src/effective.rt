@@ -7,7 +7,7 @@ use raft_base::LogId;
 use raft_members::quorum::QuorumSet;
 use raft_members::{EffectiveMembership, Membership};
 use raft_testing::facts::first_wrong;
-use raft_testing::memory::{both, differs, equals, holds};
+use raft_testing::memory::{both_made, differs, equals, is_yes};
 use raft_testing::words::{list, members, words};
 use std::alloc::{AllocError, Global};
 
@@ -47,7 +47,7 @@ fn answers(alloc: Global, row: &str) -> Result<bool, AllocError> {
 #[test]
 fn configs_are_a_quorum_set(rt: HostRuntime) {
     for row in QUORUMS.trim().lines() {
-        assert_row(&rt, row, holds(answers(rt.alloc(), row)));
+        assert_row(&rt, row, is_yes(answers(rt.alloc(), row)));
     }
 }
 
@@ -92,7 +92,7 @@ fn under(alloc: Global, log_id: Option<LogId<u64>>) -> Result<Effective, AllocEr
 /// Returns which comparison is wrong of an effective membership from the log, and of an empty one.
 /// The log id and the nodes make a difference.
 fn wrong_comparison(alloc: Global) -> Result<Option<&'static str>, AllocError> {
-    let (from_log, empty) = both(
+    let (from_log, empty) = both_made(
         Effective::from_log(&id(), members(alloc, "1,2/2,4", "1=10,2=20,3=30,5=50")?),
         Effective::new(None, Membership::try_default(alloc)?),
     )?;

@@ -8,7 +8,7 @@ use raft_members::{
     LearnerNotFound, NotAllowed, NotAllowedOf, NotInMembers, QuorumNotEnough,
 };
 use raft_testing::facts::first_wrong;
-use raft_testing::memory::{both, differs, equals, holds};
+use raft_testing::memory::{both_made, differs, equals, is_yes};
 use raft_testing::printing::prints;
 use raft_testing::words::{ids, members};
 use std::alloc::{AllocError, Global};
@@ -83,7 +83,7 @@ fn wrong_refusal(alloc: Global) -> Option<&'static str> {
 /// The error that a node alone is no quorum of the voters 1 and 2.
 pub fn quorum_not_enough(alloc: Global, node: &str) -> Result<QuorumNotEnough<u64>, AllocError> {
     let cluster = members(alloc, "1,2", "1=4,2=5")?.to_string(alloc);
-    let (cluster, got) = both(cluster, ids(alloc, node))?;
+    let (cluster, got) = both_made(cluster, ids(alloc, node))?;
     Ok(QuorumNotEnough { cluster, got })
 }
 
@@ -195,7 +195,7 @@ fn clones_compare<T: Clone + PartialEq + Drop>(
     one: Result<T, AllocError>,
     other: Result<T, AllocError>,
 ) -> Result<bool, AllocError> {
-    let (one, other) = both(one, other)?;
+    let (one, other) = both_made(one, other)?;
     let are_right = [
         equals(one.clone(), &one),
         differs(one.clone(), &other),
@@ -217,9 +217,9 @@ fn equals_its_clone(error: Result<InitializeError<u64, u64>, AllocError>) -> boo
 fn errors_are_cloned(rt: HostRuntime) {
     let alloc = rt.alloc();
     let clones = clones_compare(quorum_not_enough(alloc, "1"), quorum_not_enough(alloc, "2"));
-    assert_row(&rt, "errors of a quorum", holds(clones));
+    assert_row(&rt, "errors of a quorum", is_yes(clones));
     let clones = clones_compare(Ok(not_allowed()), not_in_members(alloc));
-    assert_row(&rt, "errors of a start", holds(clones));
+    assert_row(&rt, "errors of a start", is_yes(clones));
     assert_row(&rt, "not allowed", equals_its_clone(Ok(not_allowed())));
     assert_row(
         &rt,

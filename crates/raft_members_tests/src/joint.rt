@@ -6,7 +6,7 @@ use crate::support::quorums::{BorrowedConfigs, Configs, has_ids, joint};
 use raft_members::quorum::{AsJoint, AtLeast, Joint, QuorumSet};
 use raft_testing::allocations::is_free_on;
 use raft_testing::facts::first_wrong;
-use raft_testing::memory::{both, equals, holds};
+use raft_testing::memory::{both_made, equals, is_yes};
 use raft_testing::words::{configs, list, words};
 use std::alloc::{AllocError, Global};
 use std::collections::BTreeSet;
@@ -53,7 +53,7 @@ fn a_joint_asks_each_child(rt: HostRuntime) {
     let alloc = rt.alloc();
     for row in QUORUMS.trim().lines() {
         let [ids, want, ..] = words(row);
-        let held = both(two_sets(alloc), list(alloc, ids));
+        let held = both_made(two_sets(alloc), list(alloc, ids));
         let call = |held: &mut (Rc<Sets>, Vec<u64>)| {
             joint_answers(&held.0, held.1.as_slice(), want == "yes")
         };
@@ -76,7 +76,7 @@ fn least_size_is_greatest(alloc: Global) -> Result<bool, AllocError> {
 
 /// Whether the size of a single child decides for its joint, and no size for a joint of two.
 fn size_of_one_child_decides(alloc: Global) -> Result<bool, AllocError> {
-    let (one, two) = both(
+    let (one, two) = both_made(
         shared_joint(alloc, "1,2,3"),
         shared_joint(alloc, "1,2,3/3,4,5"),
     )?;
@@ -92,7 +92,7 @@ fn size_of_one_child_decides(alloc: Global) -> Result<bool, AllocError> {
 /// Returns what is wrong of a joint of lists, borrowed and shared, and of one without children, of
 /// which each list of ids is a quorum.
 fn wrong_joint(alloc: Global) -> Result<Option<&'static str>, AllocError> {
-    let (shared, none) = both(
+    let (shared, none) = both_made(
         shared_joint(alloc, "9,2,1/3,2,3,4"),
         Joint::try_default(alloc),
     )?;
@@ -126,7 +126,7 @@ fn joint_copy_is_equal<ID: Copy + Ord>(
 
 /// Whether a joint of two quorums of a stated size equals its clone.
 fn stated_sizes_are_cloned(alloc: Global) -> Result<bool, AllocError> {
-    let children = both(
+    let children = both_made(
         AtLeast::new(alloc, &[1, 2, 3], 2),
         AtLeast::new(alloc, &[], 1),
     )?;
@@ -138,10 +138,10 @@ fn stated_sizes_are_cloned(alloc: Global) -> Result<bool, AllocError> {
 #[test]
 fn joints_have_the_ids_and_the_greatest_size_of_their_children(rt: HostRuntime) {
     assert_made(&rt, "joints", wrong_joint(rt.alloc()));
-    let is_greatest = holds(least_size_is_greatest(rt.alloc()));
+    let is_greatest = is_yes(least_size_is_greatest(rt.alloc()));
     assert_row(&rt, "the least size of quorums", is_greatest);
-    let decides = holds(size_of_one_child_decides(rt.alloc()));
+    let decides = is_yes(size_of_one_child_decides(rt.alloc()));
     assert_row(&rt, "the size that decides", decides);
-    let are_cloned = holds(stated_sizes_are_cloned(rt.alloc()));
+    let are_cloned = is_yes(stated_sizes_are_cloned(rt.alloc()));
     assert_row(&rt, "stated sizes are cloned", are_cloned);
 }

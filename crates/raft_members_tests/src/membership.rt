@@ -5,7 +5,7 @@ use crate::support::lines::{Members, assert_rows};
 use raft_members::{EmptyMembership, IntoNodes, Membership};
 use raft_testing::allocations::is_free_on;
 use raft_testing::facts::first_wrong;
-use raft_testing::memory::{are_equal, both};
+use raft_testing::memory::{are_equal, both_made};
 use raft_testing::words::{configs, ids, members, nodes};
 use std::alloc::{AllocError, Global};
 use std::collections::BTreeSet;
@@ -68,7 +68,7 @@ fn each_answers(lacking: &Members, empty: &Members) -> bool {
 fn each_test_answers_by_itself(rt: HostRuntime) {
     let name = "Membership, ensure_valid and its parts";
     let alloc = rt.alloc();
-    let made = both(members(alloc, "1,2", "1=1"), members(alloc, "1/-", "1=1"));
+    let made = both_made(members(alloc, "1,2", "1=1"), members(alloc, "1/-", "1=1"));
     let call = |made: &mut (Members, Members)| each_answers(&made.0, &made.1);
     assert_call(&rt, name, is_free_on(&rt, alloc, name, made, call));
 }
@@ -111,7 +111,7 @@ fn has_nodes<T: IntoNodes<u64, u64> + Drop>(
     source: Result<T, AllocError>,
     node_word: &str,
 ) -> bool {
-    match both(configs(alloc, config_word), source) {
+    match both_made(configs(alloc, config_word), source) {
         Ok((configs, source)) => are_equal(
             Membership::new(configs, source),
             members(alloc, config_word, node_word),
@@ -178,7 +178,7 @@ fn wrong_made(alloc: Global) -> Option<&'static str> {
         ),
         Err(_) => false,
     };
-    let are_kept = match both(nodes(alloc, "1=7"), nodes(alloc, "1=8,2=9")) {
+    let are_kept = match both_made(nodes(alloc, "1=7"), nodes(alloc, "1=8,2=9")) {
         Ok((old, new)) => are_equal(Members::extend_nodes(old, &new), nodes(alloc, "1=7,2=9")),
         Err(_) => false,
     };

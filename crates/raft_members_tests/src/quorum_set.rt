@@ -4,7 +4,7 @@ use crate::support::asserts::assert_made;
 use crate::support::quorums::has_ids;
 use raft_members::quorum::{AtLeast, QuorumSet};
 use raft_testing::facts::first_wrong;
-use raft_testing::memory::both;
+use raft_testing::memory::both_made;
 use raft_testing::words::{ids as set, list, number, words};
 use std::alloc::{AllocError, Global};
 
@@ -56,7 +56,7 @@ fn wrong_set(alloc: Global, row: &str) -> Result<Option<&'static str>, AllocErro
     ] = words(row);
     let of_list = [answer, size, ids];
     let of_set = [answer_of_set, size_of_set, ids];
-    let (list, asked) = both(list(alloc, voters), list(alloc, asked))?;
+    let (list, asked) = both_made(list(alloc, voters), list(alloc, asked))?;
     let asked = asked.as_slice();
     Ok(first_wrong(&[
         ("list", is_set(alloc, &list, asked, of_list)),
@@ -108,7 +108,7 @@ fn asked(alloc: Global, count: u64) -> Result<Vec<u64>, AllocError> {
 /// Returns which quorum set of the many voters of a row is wrong.
 fn wrong_set_of_many(alloc: Global, row: &str) -> Result<Option<&'static str>, AllocError> {
     let [step, count, answer, ..] = words(row);
-    let (list, asked) = both(
+    let (list, asked) = both_made(
         voters(alloc, number(step), 307),
         asked(alloc, number(count)),
     )?;

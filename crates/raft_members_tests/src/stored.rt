@@ -3,12 +3,12 @@
 use crate::support::asserts::assert_made;
 use crate::support::memberships::{Stored, id, stored};
 use raft_testing::facts::first_wrong;
-use raft_testing::memory::{are_equal, both, equals};
+use raft_testing::memory::{are_equal, both_made, equals};
 use std::alloc::{AllocError, Global};
 
 /// Returns which read or clone is wrong of a stored membership, or which clone of the default.
 fn wrong_read(alloc: Global) -> Result<Option<&'static str>, AllocError> {
-    let (stored, default) = both(stored(alloc), Stored::try_default(alloc))?;
+    let (stored, default) = both_made(stored(alloc), Stored::try_default(alloc))?;
     Ok(first_wrong(&[
         ("log id", *stored.log_id() == Some(id())),
         ("nodes", stored.nodes().count() == 4),

@@ -4,7 +4,7 @@ use crate::support::asserts::assert_row;
 use crate::support::memberships::{Effective, Stored, effective};
 use raft_base::BasicNode;
 use raft_members::Membership;
-use raft_testing::memory::holds;
+use raft_testing::memory::is_yes;
 use raft_testing::printing::{debugs, displays, prints, sums_up};
 use raft_testing::words::{log_id, words};
 use std::alloc::{AllocError, Global};
@@ -84,7 +84,7 @@ fn with_address(alloc: Global) -> Result<Membership<u64, BasicNode>, AllocError>
 #[test]
 fn memberships_print(rt: HostRuntime) {
     for row in TEXTS.trim().lines() {
-        assert_row(&rt, row, holds(prints_row(rt.alloc(), row)));
+        assert_row(&rt, row, is_yes(prints_row(rt.alloc(), row)));
     }
     let texts = [
         "{voters:[{1:BasicNode { addr: \"here\" }}], learners:[]}",

@@ -16,7 +16,7 @@ use raft_progress::tracked::{Tracked, replay};
 use raft_testing::allocations::{
     Allocation, is_as_in_ample_memory, is_free, is_free_on, is_swept_by, refuse_each,
 };
-use raft_testing::memory::{both, clone_of};
+use raft_testing::memory::{both_made, clone_of};
 use raft_testing::plain_log::{Numbered, PlainLog, id, log_below};
 use std::alloc::{AllocError, Global};
 use std::io;
@@ -353,7 +353,7 @@ fn goes_on_free(
     name: &str,
     progress: Result<Numbers, AllocError>,
 ) -> io::Result<bool> {
-    let held = both(progress, moved(alloc));
+    let held = both_made(progress, moved(alloc));
     is_free_on(
         rt,
         alloc,
@@ -395,7 +395,7 @@ fn no_allocations_of_progresses(rt: HostRuntime) -> Result<(), Fail> {
         name,
         is_free_on(&rt, alloc, name, three, |three| are_quorums(three)),
     );
-    let (name, both) = ("Tracked::eq", both(tracked(alloc), tracked(alloc)));
+    let (name, both) = ("Tracked::eq", both_made(tracked(alloc), tracked(alloc)));
     assert_call(
         &rt,
         name,
@@ -432,7 +432,7 @@ fn is_in_flight_as_worked() -> bool {
 fn no_allocations_of_searches(rt: HostRuntime) -> Result<(), Fail> {
     let alloc = rt.alloc();
     let name = "ProgressEntry and search_run";
-    let logs = both(
+    let logs = both_made(
         log_below(alloc, 100, None),
         purged_log(alloc, 21, 4, id(1, 6)),
     );

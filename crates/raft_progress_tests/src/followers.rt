@@ -9,7 +9,7 @@ use raft_progress::inflight::{InflightError, InflightOf};
 use raft_progress::progress::Progress;
 use raft_progress::tracked::Tracked;
 use raft_testing::allocations::is_free_on;
-use raft_testing::memory::both;
+use raft_testing::memory::both_made;
 use raft_testing::plain_log::{Numbered, PlainLog, id, log_below};
 use std::alloc::{AllocError, Global};
 use std::io;
@@ -142,7 +142,7 @@ fn are_followed<C: Numbered + Drop>(
     rows: &[Row],
     updates: u64,
 ) -> io::Result<bool> {
-    let begun = both(followers::<C>(alloc, end), log_below(alloc, end, None));
+    let begun = both_made(followers::<C>(alloc, end), log_below(alloc, end, None));
     is_free_on(
         rt,
         alloc,

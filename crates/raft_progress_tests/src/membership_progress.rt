@@ -5,7 +5,7 @@ use crate::support::members::members;
 use crate::support::progress_rows::{wrong_read, wrong_row};
 use raft_progress::progress::Progress;
 use raft_progress::tracked::MembershipProgress;
-use raft_testing::memory::holds;
+use raft_testing::memory::is_yes;
 use std::alloc::{AllocError, Global};
 use std::test::Fail;
 
@@ -52,7 +52,7 @@ fn a_progress_goes_over_to_a_membership(rt: HostRuntime) -> Result<(), Fail> {
     assert_row(
         &rt,
         "where it may go over",
-        holds(is_told(alloc, &of_two(alloc, 3)?)),
+        is_yes(is_told(alloc, &of_two(alloc, 3)?)),
     );
     let mut progress = of_two(alloc, 0)?;
     let updates = "update 1 5 0\nupdate 2 3 3";

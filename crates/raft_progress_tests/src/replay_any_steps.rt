@@ -12,7 +12,7 @@ use crate::support::progress_rows::{
 };
 use raft_members::quorum::QuorumSet;
 use raft_progress::{AnyStep, Progress, ProgressPart, Reply, VecProgress, replay_any};
-use raft_testing::memory::{holds, on};
+use raft_testing::memory::{is_yes, with_made};
 use raft_testing::words::list;
 use std::alloc::{AllocError, Global};
 use std::test::Fail;
@@ -143,12 +143,12 @@ fn replays_are_as_worked(rt: HostRuntime) -> Result<(), Fail> {
     for life in LIVES.trim().split("\n\n") {
         let (first, rows) = life.split_once('\n').unwrap_or((life, ""));
         let progress = begun(rt.alloc(), first);
-        let is_right = on(progress, |progress| is_replayed(rt.alloc(), progress, rows));
-        assert_row(&rt, life, holds(is_right));
+        let is_right = with_made(progress, |progress| is_replayed(rt.alloc(), progress, rows));
+        assert_row(&rt, life, is_yes(is_right));
     }
     let life = "0,1,2 5 0\nupdate 0 5 0\nupdate 1 6 5\nupdate 5 9 5";
     let refused = "upgrade 0,1,2 5 1 below:2\nupgrade 0,1,2 5,5 1 bad\nupgrade 0,1,2 2 0 bad";
-    assert_row(&rt, refused, holds(stays(rt.alloc(), life, refused)));
+    assert_row(&rt, refused, is_yes(stays(rt.alloc(), life, refused)));
     Ok(())
 }
 
@@ -171,9 +171,9 @@ fn a_caller_grants(rt: HostRuntime) -> Result<(), Fail> {
     assert_row(
         &rt,
         "granted",
-        holds(is_granted(alloc, "1,2,3", &[], rows, Some(4))),
+        is_yes(is_granted(alloc, "1,2,3", &[], rows, Some(4))),
     );
     let unfit = is_granted(alloc, "0,1,2", &[2], "", None);
-    assert_row(&rt, "learners that do not fit", holds(unfit));
+    assert_row(&rt, "learners that do not fit", is_yes(unfit));
     Ok(())
 }

@@ -8,7 +8,7 @@ use raft_base::LeaderId;
 use raft_base::leader_id_std::CommittedLeaderId;
 use raft_progress::entry::ProgressEntryOf;
 use raft_progress::search::{SearchEvent, search_run};
-use raft_testing::memory::holds;
+use raft_testing::memory::is_yes;
 use raft_testing::plain_log::{Numbered, PlainLog, id, log_below};
 use std::alloc::{AllocError, Global};
 use std::test::Fail;
@@ -114,12 +114,12 @@ fn searches_are_as_worked(rt: HostRuntime) -> Result<(), Fail> {
     assert_row(
         &rt,
         "default leader ids",
-        holds(is_as_worked::<LeaderId<u64>>(rt.alloc())),
+        is_yes(is_as_worked::<LeaderId<u64>>(rt.alloc())),
     );
     assert_row(
         &rt,
         "standard leader ids",
-        holds(is_as_worked::<CommittedLeaderId>(rt.alloc())),
+        is_yes(is_as_worked::<CommittedLeaderId>(rt.alloc())),
     );
     Ok(())
 }

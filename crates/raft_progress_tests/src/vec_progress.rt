@@ -6,7 +6,7 @@ use crate::support::asserts::{assert_made, assert_row};
 use crate::support::progress_rows::{Numbers, begun, lived, play, play_all, wrong_row};
 use raft_members::quorum::Joint;
 use raft_progress::progress::{Progress, VecProgress};
-use raft_testing::memory::holds;
+use raft_testing::memory::is_yes;
 use raft_testing::words::list;
 use std::alloc::{AllocError, Global};
 use std::test::Fail;
@@ -124,7 +124,7 @@ fn learners_stand_once_and_are_no_voters(rt: HostRuntime) -> Result<(), Fail> {
         rt.alloc(),
         "0,1,2 5 0\nupdate 0 5 0\nupdate 1 6 5\nupdate 5 9 5",
     )?;
-    assert_row(&rt, "learners", holds(are_allowed(rt.alloc(), &progress)));
+    assert_row(&rt, "learners", is_yes(are_allowed(rt.alloc(), &progress)));
     Ok(())
 }
 
@@ -177,7 +177,7 @@ fn any_progress_grants(rt: HostRuntime) -> Result<(), Fail> {
     let alloc = rt.alloc();
     let mut progress: Numbers = begun(alloc, "0,1,2 - 7")?;
     assert_row(&rt, "granted", granted_by(&progress) == 7);
-    assert_row(&rt, "an upgrade", holds(may_go_over(alloc, &mut progress)));
+    assert_row(&rt, "an upgrade", is_yes(may_go_over(alloc, &mut progress)));
     Ok(())
 }
 

@@ -8,7 +8,7 @@ use raft_safety::event::Event;
 use raft_safety::memberships::Memberships;
 use raft_safety::merge::check_each;
 use raft_testing::allocations::{Allocation, is_free_on, is_swept};
-use raft_testing::memory::both;
+use raft_testing::memory::both_made;
 use std::alloc::{AllocError, Global};
 use std::io;
 use std::test::Fail;
@@ -99,7 +99,7 @@ fn is_allowed(allocation: Allocation, refused: Option<Violation>) -> Result<bool
 /// refused.
 fn check_all(allocation: Allocation, has_lists: bool) -> Result<bool, AllocError> {
     let alloc = allocation.alloc;
-    let (events, lists) = both(history(alloc), lists_of(alloc, TWO_LISTS))?;
+    let (events, lists) = both_made(history(alloc), lists_of(alloc, TWO_LISTS))?;
     let configs = three(alloc)?;
     allocation.refuse();
     let refused = if has_lists {
@@ -118,7 +118,7 @@ fn check_all(allocation: Allocation, has_lists: bool) -> Result<bool, AllocError
 /// out, the checker has to learn of it afterwards.
 fn learn(allocation: Allocation) -> Result<bool, AllocError> {
     let alloc = allocation.alloc;
-    let (mut checker, configs) = both(checked(alloc, &history(alloc)?), Ok(Vec::new(alloc)))?;
+    let (mut checker, configs) = both_made(checked(alloc, &history(alloc)?), Ok(Vec::new(alloc)))?;
     allocation.refuse();
     match checker.learn(104, configs) {
         Ok(()) => Ok(true),
@@ -164,7 +164,7 @@ type Held = (Option<Memberships<u64, u64>>, Checked);
 fn held(alloc: Global) -> Result<Held, AllocError> {
     let events = history(alloc)?;
     let (before, _) = events.split_at(LAST.min(events.len()));
-    let (configs, checker) = both(three(alloc), checked(alloc, before))?;
+    let (configs, checker) = both_made(three(alloc), checked(alloc, before))?;
     Ok((Some(configs), checker))
 }
 

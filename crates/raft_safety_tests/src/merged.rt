@@ -2,7 +2,7 @@
 
 use crate::recorded::{Recorded, events_of, three};
 use raft_safety::merge::check_each;
-use raft_testing::memory::both;
+use raft_testing::memory::both_made;
 use raft_testing::printing::debugs;
 use std::alloc::{AllocError, Global};
 use std::test::Fail;
@@ -64,7 +64,7 @@ pub fn lists_of(alloc: Global, text: &str) -> Result<Vec<Vec<Recorded>>, AllocEr
 /// Whether the events of a row are placed, or are not, as expected.
 fn are_placed(alloc: Global, row: &str) -> Result<bool, AllocError> {
     let (text, expected) = row.split_once(" = ").unwrap_or((row, ""));
-    let (lists, configs) = both(lists_of(alloc, text), three(alloc))?;
+    let (lists, configs) = both_made(lists_of(alloc, text), three(alloc))?;
     match check_each(alloc, configs, &lists) {
         Ok(()) => Ok(expected == "ok"),
         Err(unplaced) => Ok(debugs(alloc, &unplaced, expected)),

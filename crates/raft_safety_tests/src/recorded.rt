@@ -4,7 +4,7 @@ use raft_safety::checker::{Checker, Violation};
 use raft_safety::entry::Entry;
 use raft_safety::event::Event;
 use raft_safety::memberships::Memberships;
-use raft_testing::memory::both;
+use raft_testing::memory::both_made;
 use raft_testing::printing::debugs;
 use raft_testing::words::{lists, number, words};
 use std::alloc::{AllocError, Global};
@@ -138,6 +138,6 @@ fn held(alloc: Global) -> Result<Vec<(u64, Vec<Vec<u64>>)>, AllocError> {
 /// content 101 the membership of these alone. Contents 102 and 103 hold the configs of servers 0 to
 /// 3 and of servers 0 to 4.
 pub fn three(alloc: Global) -> Result<Memberships<u64, u64>, AllocError> {
-    let (initial, held) = both(lists(alloc, "0,1,2"), held(alloc))?;
+    let (initial, held) = both_made(lists(alloc, "0,1,2"), held(alloc))?;
     Ok(Memberships { initial, held })
 }

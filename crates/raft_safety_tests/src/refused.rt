@@ -2,7 +2,7 @@
 
 use crate::recorded::{events_of, is_rule, three};
 use raft_safety::check::check;
-use raft_testing::memory::both;
+use raft_testing::memory::both_made;
 use std::alloc::{AllocError, Global};
 use std::test::Fail;
 
@@ -76,7 +76,7 @@ restarted 2 1; appended 2 4 2 1 1.11; acked 2 4 2 2 = ok";
 /// rule of this name.
 fn is_answered(alloc: Global, history: &str, row: &str) -> Result<bool, AllocError> {
     let (text, name) = row.split_once(" = ").unwrap_or((row, ""));
-    let (events, configs) = both(events_of(alloc, &[history, text]), three(alloc))?;
+    let (events, configs) = both_made(events_of(alloc, &[history, text]), three(alloc))?;
     match check(alloc, configs, &events) {
         Ok(()) => Ok(name == "ok"),
         Err(refused) => Ok(

@@ -16,7 +16,7 @@ use raft_state::{
     SnapshotMeta, is_key_list,
 };
 use raft_testing::allocations::{Allocation, is_compared, is_free_on, is_swept};
-use raft_testing::memory::both;
+use raft_testing::memory::both_made;
 use raft_testing::words::{log_ids, members, number, words};
 use std::alloc::{AllocError, Global};
 use std::io;
@@ -206,7 +206,7 @@ fn allocations_of_summaries(rt: HostRuntime) -> Result<(), Fail> {
         "Entry::summary",
         "EntryPayload::summary",
     ] {
-        let summed = |alloc: Global| both(membership_state::state(alloc), entry(alloc));
+        let summed = |alloc: Global| both_made(membership_state::state(alloc), entry(alloc));
         let sum_up = |allocation: Allocation, of: &mut Summed| sum_up(allocation, of, name);
         assert!(rt; is_swept(&rt, rt.alloc(), name, summed, sum_up)?);
     }
@@ -242,7 +242,7 @@ fn ids_of(alloc: Global, rows: &str) -> Result<Vec<Ids>, AllocError> {
     let mut all = Vec::new(alloc);
     for row in rows.trim().lines() {
         let [_, argument, answer, ..] = words(row);
-        all.extend(Some(both(log_ids(alloc, argument), log_ids(alloc, answer))?))?;
+        all.extend(Some(both_made(log_ids(alloc, argument), log_ids(alloc, answer))?))?;
     }
     Ok(all)
 }
@@ -262,7 +262,7 @@ fn all_lead(list: &mut List, rows: &str, all: &[Ids]) -> bool {
 
 /// Whether the calls of the rows are right, and do not allocate.
 fn are_free(rt: &impl Print, alloc: Global, name: &str, rows: &str) -> io::Result<bool> {
-    let made = both(list(alloc, "1.1,2.3,2.9", 0), ids_of(alloc, rows));
+    let made = both_made(list(alloc, "1.1,2.3,2.9", 0), ids_of(alloc, rows));
     is_free_on(
         rt,
         alloc,
@@ -278,7 +278,7 @@ type Built = (State, Option<Snapshot<LeaderId<u64>>>);
 /// Such a state.
 fn built(alloc: Global) -> Result<Built, AllocError> {
     let upto = snapshot(alloc, Some((3, 4)), Some((1, 1)));
-    let (state, upto) = both(follower(alloc, "2 1.1 3.4 - - -"), upto)?;
+    let (state, upto) = both_made(follower(alloc, "2 1.1 3.4 - - -"), upto)?;
     Ok((state, Some(upto)))
 }
 

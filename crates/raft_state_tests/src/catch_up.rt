@@ -7,7 +7,7 @@ use crate::support::states::{NEW, State, VALID, log_of};
 use raft_base::LogStateReader;
 use raft_progress::{Progress, ProgressEntryOf};
 use raft_testing::allocations::{is_free, refuse_each};
-use raft_testing::memory::both;
+use raft_testing::memory::both_made;
 use raft_testing::plain_log::Numbered;
 use std::alloc::{AllocError, Global};
 use std::process::Abort;
@@ -94,7 +94,7 @@ pub fn catches_up_right<L: Drop, C: Numbered + Drop + 'static>(
     purged: &State<L, C>,
 ) -> Result<bool, AllocError> {
     let followers = followers(rt, alloc, &[4], 100);
-    let (log_ids, mut progress) = both(log_of(alloc, "1.0,1.99"), followers)?;
+    let (log_ids, mut progress) = both_made(log_of(alloc, "1.0,1.99"), followers)?;
     state.log_ids = log_ids;
     Ok(are_caught_up(rt, alloc, state, purged, &mut progress))
 }

@@ -4,7 +4,7 @@ ghost use Rattle.std.specs.Prelude.{◌≡◌};
 use raft_base::{CommittedLeaderId, LogId, LogIdOf, RaftLogId, leader_id_std};
 use raft_members::Membership;
 use raft_state::{Entry, EntryOf, EntryPayload, FromAppData, RaftEntry, RaftPayload};
-use raft_testing::memory::{both, equals, on};
+use raft_testing::memory::{both_made, equals, with_made};
 use raft_testing::words::members;
 use std::alloc::{AllocError, Global};
 use std::test::Fail;
@@ -105,12 +105,12 @@ fn entries_are_as_made(rt: HostRuntime) -> Result<(), Fail> {
     let log_id = LogId::new(CommittedLeaderId::new(1, 2u64), 3);
     let standard = LogIdOf::new(leader_id_std::CommittedLeaderId { term: 1 }, 3);
     let none = members(alloc, "none", "-");
-    let default = both(stores(alloc), Ok(Data::default()));
-    let entries = both(Ok(Data::from_app_data(7)), default);
+    let default = both_made(stores(alloc), Ok(Data::default()));
+    let entries = both_made(Ok(Data::from_app_data(7)), default);
     let are_right = [
         are_made::<Data>(log_id, members(alloc, "1,2", "1=4,3=6")),
         are_as_made::<_, EntryOf<_, u64, u64, u64>>(standard, none),
-        on(
+        with_made(
             entries,
             |of| data_is_kept(&mut of.0, (&mut of.1.0, &of.1.1), log_id),
         ),

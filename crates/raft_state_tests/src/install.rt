@@ -4,7 +4,7 @@ use crate::support::asserts::assert_row;
 use crate::support::messages::snapshot;
 use crate::support::rows::row;
 use crate::support::states::follower;
-use raft_testing::memory::{both, holds, on};
+use raft_testing::memory::{both_made, is_yes, with_made};
 use raft_testing::words::words;
 use std::alloc::{AllocError, Global};
 use std::test::Fail;
@@ -23,16 +23,19 @@ const REFUSED: &str = "
 fn is_refused(alloc: Global, of: &str) -> Result<bool, AllocError> {
     let [upto, at, ..] = words(of);
     let state = follower(alloc, "2 1.1 1.1 - - 1.9");
-    on(both(state, snapshot(alloc, row(upto), row(at))), |held| {
-        let (state, snapshot) = &*held;
-        Ok(!state.can_install_snapshot(snapshot) && !state.can_build_snapshot(snapshot))
-    })
+    with_made(
+        both_made(state, snapshot(alloc, row(upto), row(at))),
+        |held| {
+            let (state, snapshot) = &*held;
+            Ok(!state.can_install_snapshot(snapshot) && !state.can_build_snapshot(snapshot))
+        },
+    )
 }
 
 #[test]
 fn snapshots_are_refused(rt: HostRuntime) -> Result<(), Fail> {
     for of in REFUSED.trim().lines() {
-        assert_row(&rt, of, holds(is_refused(rt.alloc(), of)));
+        assert_row(&rt, of, is_yes(is_refused(rt.alloc(), of)));
     }
     Ok(())
 }

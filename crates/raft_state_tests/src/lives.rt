@@ -10,7 +10,7 @@ use crate::support::states::{NEW, State};
 use raft_base::{LeaderIdentity, LogIdOf, LogStateReader, VoteIn};
 use raft_members::{Membership, StoredMembershipOf};
 use raft_state::{EntryOf, EntryPayload, SnapshotMetaOf, is_key_list};
-use raft_testing::memory::holds;
+use raft_testing::memory::is_yes;
 use raft_testing::plain_log::Numbered;
 use raft_testing::words::{log_ids, number, words};
 use std::alloc::{AllocError, Global};
@@ -539,13 +539,13 @@ pub fn live<
     C: Numbered + Default + Drop + 'static,
 >(rt: &impl Abort, alloc: Global, state: &mut State<L, C>, plain: &mut Plain, life: &str) -> bool {
     let (title, calls) = life.split_once('\n').unwrap_or((life, ""));
-    let is_promised = holds(make_any(alloc, state, ["promise", "9", "committed"]));
+    let is_promised = is_yes(make_any(alloc, state, ["promise", "9", "committed"]));
     for call in calls.lines() {
         let [may, name, first, second, ..] = words(call);
         let made = make_any(alloc, state, [name, first, second]);
         let accepted = state.accepted().copied();
         let is_right = is_right(state, accepted, plain, made, [may, name, first, second]);
-        assert_right(rt, title, if holds(is_right) { None } else { Some(call) });
+        assert_right(rt, title, if is_yes(is_right) { None } else { Some(call) });
     }
     is_promised
 }

@@ -10,7 +10,7 @@ use raft_base::leader_id_std::CommittedLeaderId;
 use raft_base::{LeaderId, LogIdOf};
 use raft_state::log_id_list::laws::{have_equal_keys, truncate_twice};
 use raft_state::{LogIdList, LogIdListOf};
-use raft_testing::memory::{differs, equals, holds};
+use raft_testing::memory::{differs, equals, is_yes};
 use raft_testing::printing::debugs;
 use std::alloc::{AllocError, Global};
 use std::test::Fail;
@@ -129,7 +129,7 @@ fn clones_compare(alloc: Global, list: &LogIdList<u64>) -> Result<bool, AllocErr
 fn is_replaced(alloc: Global, list: &LogIdList<u64>) -> Result<bool, AllocError> {
     let mut taken = list.clone()?;
     let is_taken = replace_from(&mut taken, LogIdOf::new(LeaderId::new(3, 0), 6));
-    Ok(holds(is_taken) && is(&taken, alloc, "1.1,2.3,3.6"))
+    Ok(is_yes(is_taken) && is(&taken, alloc, "1.1,2.3,3.6"))
 }
 
 /// Whether an empty list takes two log ids.
@@ -145,9 +145,9 @@ fn lists_compare(alloc: Global, list: &LogIdList<u64>) -> Result<bool, AllocErro
     let are_right = [
         is(list, alloc, "1.1,2.3,2.9"),
         differs(log_of(alloc, "1.1,3.3,3.9"), list),
-        holds(clones_compare(alloc, list)),
-        holds(is_replaced(alloc, list)),
-        holds(both_are_taken(alloc)),
+        is_yes(clones_compare(alloc, list)),
+        is_yes(is_replaced(alloc, list)),
+        is_yes(both_are_taken(alloc)),
         is(&LogIdList::try_default(alloc)?, alloc, "-"),
     ];
     Ok(!are_right.contains(&false))

@@ -6,7 +6,7 @@ use raft_base::{Invalid, LeaderId, LogIdOf, LogIdOptionExt, Validate};
 use raft_members::{ChangeMembers, ChangeMembershipErrorOf, InProgressOf};
 use raft_state::MembershipStateOf;
 use raft_testing::allocations::{is_free, refuse_each};
-use raft_testing::memory::{both, equals, holds, on};
+use raft_testing::memory::{both_made, equals, is_yes, with_made};
 use raft_testing::plain_log::Numbered;
 use raft_testing::words::{ids, number, words};
 use std::alloc::{AllocError, Global};
@@ -133,7 +133,7 @@ fn move_right<C: Numbered + Drop>(
     rows: &str,
 ) -> Result<bool, AllocError> {
     for (row, new) in rows.trim().lines().zip(news) {
-        if !on(from.try_clone(), |state| leads(state, from, new, row))? {
+        if !with_made(from.try_clone(), |state| leads(state, from, new, row))? {
             return Ok(false);
         }
     }
@@ -186,15 +186,15 @@ fn are_added<C: Numbered + Default + Debug + Drop>(
 /// Whether a change is refused while the effective membership is not committed, and made
 /// afterwards.
 fn apply_right<C: Numbered + Default + Debug + Drop>(alloc: Global, state: &mut State<C>) -> bool {
-    let is_early = holds(is_early(state, ids(alloc, "1")));
+    let is_early = is_yes(is_early(state, ids(alloc, "1")));
     let upto = id(Some((2, 10)));
     let is_committed = state.can_commit(&upto) && state.commit(&upto) == Ok(());
     let are_right = [
         is_early,
         is_committed,
         state.change_handler().ensure_committed() == Ok(()),
-        holds(are_removed(state, ids(alloc, "2,3"))),
-        holds(are_added(state, ids(alloc, "1"))),
+        is_yes(are_removed(state, ids(alloc, "2,3"))),
+        is_yes(are_added(state, ids(alloc, "1"))),
     ];
     are_right == [true; 5]
 }
@@ -209,7 +209,7 @@ fn memberships_right<C: Numbered + Default + Debug + Drop>(
     rows: &str,
 ) -> Result<bool, AllocError> {
     refuse_each(alloc);
-    let is_right = holds(move_right(from, same, news, rows));
+    let is_right = is_yes(move_right(from, same, news, rows));
     let are_free = is_free(rt, alloc, "MembershipState, its moves and reads", is_right);
     Ok(are_free.unwrap_or(false) && apply_right(alloc, from))
 }
@@ -220,9 +220,9 @@ pub fn all_right<C: Numbered + Default + Debug + Drop>(
     alloc: Global,
     rows: &str,
 ) -> bool {
-    let states = both(state::<C>(alloc), state::<C>(alloc));
-    let held = both(states, news(alloc, rows));
-    holds(on(
+    let states = both_made(state::<C>(alloc), state::<C>(alloc));
+    let held = both_made(states, news(alloc, rows));
+    is_yes(with_made(
         held,
         |held| memberships_right(rt, alloc, &mut held.0, &held.1, rows),
     ))

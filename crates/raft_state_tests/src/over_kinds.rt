@@ -15,7 +15,7 @@ use crate::whole_state::{
     grows, has_before, is_sound_as, leads, reads_right, sends_and_commits, validates,
 };
 use raft_base::{LeaderId, LeaderIdentity, VoteIn};
-use raft_testing::memory::{both, on};
+use raft_testing::memory::{both_made, with_made};
 use raft_testing::plain_log::Numbered;
 use std::alloc::{AllocError, Global};
 use std::process::Abort;
@@ -71,11 +71,11 @@ pub fn assert_over<
     alloc: Global,
     [test, of, other_of, row]: [&str; 4],
 ) -> Result<(), AllocError> {
-    let states = both(
+    let states = both_made(
         State::<L, C>::try_default(alloc),
         State::<L, C>::try_default(alloc),
     );
-    let is_right = on(both(states, Plain::new(alloc)), |held| {
+    let is_right = with_made(both_made(states, Plain::new(alloc)), |held| {
         let (states, plain) = held;
         fill(alloc, &mut states.0, of)?;
         fill(alloc, &mut states.1, other_of)?;

@@ -12,7 +12,7 @@ use raft_base::{LeaderIdentity, LeaderKind};
 use raft_progress::ProgressEntryOf;
 use raft_progress::search::{SearchEvent, search_run};
 use raft_state::RaftStateOf;
-use raft_testing::memory::on;
+use raft_testing::memory::with_made;
 use raft_testing::plain_log::Numbered;
 use std::alloc::{AllocError, Global};
 use std::cmp::Ordering;
@@ -155,7 +155,7 @@ fn searches(alloc: Global, log: &mut State) -> Result<bool, AllocError> {
 #[test]
 fn leaders_of_ones_own_will_do(rt: HostRuntime) -> Result<(), Fail> {
     let alloc = rt.alloc();
-    assert!(rt; on(State::try_default(alloc), |state| searches(alloc, state))?);
+    assert!(rt; with_made(State::try_default(alloc), |state| searches(alloc, state))?);
     assert_over::<RegionLeader, _>(&rt, alloc, ["catches up", NEW, VALID, "1.0,1.99"])?;
     Ok(())
 }

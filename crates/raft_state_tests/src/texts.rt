@@ -7,7 +7,7 @@ use raft_state::{
     Entry, EntryPayload, ForwardToLeader, LogIOId, LogIOIdOf, MembershipState, RaftState,
     SnapshotMeta,
 };
-use raft_testing::memory::holds;
+use raft_testing::memory::is_yes;
 use raft_testing::printing::{debugs, displays, sums_up};
 use raft_testing::words::members;
 use std::alloc::{AllocError, Global};
@@ -110,7 +110,7 @@ fn texts(rt: HostRuntime) -> Result<(), Fail> {
         entry_prints(alloc, EntryPayload::Blank, BLANK),
         entry_prints(alloc, EntryPayload::Normal(7), NORMAL),
         entry_prints(alloc, membership, MEMBERSHIP),
-        holds(memberships_sum_up(alloc)),
+        is_yes(memberships_sum_up(alloc)),
         written_log_prints(alloc),
     ];
     assert!(rt; are_right == [true; 5]);

@@ -26,7 +26,7 @@ use raft_members::quorum::QuorumSet;
 use raft_progress::{InflightOf, Progress, ProgressEntryOf};
 use raft_state::{AcceptedIn, FollowersOf, ForwardToLeader, RaftStateIn};
 use raft_testing::allocations::{is_free, refuse_each};
-use raft_testing::memory::{equals, on};
+use raft_testing::memory::{equals, with_made};
 use raft_testing::plain_log::Numbered;
 use raft_testing::printing::debugs;
 use raft_testing::words::{log_ids, number, words};
@@ -392,7 +392,7 @@ fn a_state_reads_and_moves(rt: HostRuntime) -> Result<(), Fail> {
         assert_over_both(&rt, alloc, ["leads", VALID, NEW, row])?;
     }
     let standard = StandardState::try_default(alloc);
-    assert!(rt; on(standard, |state| nobody_leads(alloc, state))?);
+    assert!(rt; with_made(standard, |state| nobody_leads(alloc, state))?);
     Ok(())
 }
 

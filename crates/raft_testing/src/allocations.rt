@@ -4,7 +4,7 @@
 //! ones by requests for more bytes than a machine has. Without it each such request fails, and the
 //! calls are made in ample memory.
 
-use crate::memory::both;
+use crate::memory::both_made;
 use std::alloc::{AllocError, Global};
 use std::io;
 
@@ -249,7 +249,7 @@ pub fn is_compared<T: PartialEq + Drop>(
     value: Result<T, AllocError>,
     other: Result<T, AllocError>,
 ) -> io::Result<bool> {
-    is_free_on(rt, alloc, name, both(value, other), |held| {
+    is_free_on(rt, alloc, name, both_made(value, other), |held| {
         held.0 == held.0 && held.0 != held.1
     })
 }

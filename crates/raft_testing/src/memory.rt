@@ -5,12 +5,12 @@
 use std::alloc::AllocError;
 
 /// Whether an answer is yes, and there was memory for it.
-pub fn holds(answer: Result<bool, AllocError>) -> bool {
+pub fn is_yes(answer: Result<bool, AllocError>) -> bool {
     answer.unwrap_or(false)
 }
 
 /// Two values, if there was memory for both.
-pub fn both<A: Drop, B: Drop>(
+pub fn both_made<A: Drop, B: Drop>(
     first: Result<A, AllocError>,
     second: Result<B, AllocError>,
 ) -> Result<(A, B), AllocError> {
@@ -20,7 +20,7 @@ pub fn both<A: Drop, B: Drop>(
 /// Returns what a call of a value returns, if there was memory for the value.
 ///
 /// A test does not own the value, so its exit paths do not drop it.
-pub fn on<T: Drop, A, E: From<AllocError>, C: FnOnce(&mut T) -> Result<A, E>>(
+pub fn with_made<T: Drop, A, E: From<AllocError>, C: FnOnce(&mut T) -> Result<A, E>>(
     value: Result<T, AllocError>,
     call: C,
 ) -> Result<A, E>
@@ -35,7 +35,7 @@ pub fn are_equal<T: PartialEq + Drop>(
     made: Result<T, AllocError>,
     want: Result<T, AllocError>,
 ) -> bool {
-    match both(made, want) {
+    match both_made(made, want) {
         Ok(values) => values.0 == values.1,
         Err(_) => false,
     }

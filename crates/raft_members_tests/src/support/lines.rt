@@ -5,7 +5,7 @@ use crate::support::asserts::assert_row;
 use raft_members::{
     ChangeMembers, ChangeMembershipError, EmptyMembership, LearnerNotFound, Membership,
 };
-use raft_testing::memory::{are_equal, differs, equals, holds};
+use raft_testing::memory::{are_equal, differs, equals, is_yes};
 use raft_testing::words::{ids, list, members, nodes, number, words};
 use std::alloc::{AllocError, Global};
 use std::collections::{BTreeMap, BTreeSet};
@@ -138,6 +138,6 @@ fn is_right(alloc: Global, kind: &str, row: &str) -> Result<bool, AllocError> {
 /// Stops the test at the first of some rows of a kind that is wrong, and prints the row.
 pub fn assert_rows(rt: &impl Abort, alloc: Global, kind: &str, rows: &str) {
     for row in rows.trim().lines() {
-        assert_row(rt, row, holds(is_right(alloc, kind, row)));
+        assert_row(rt, row, is_yes(is_right(alloc, kind, row)));
     }
 }

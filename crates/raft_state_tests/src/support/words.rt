@@ -4,7 +4,7 @@ use crate::support::asserts::assert_row;
 use crate::support::states::log_of;
 use raft_base::LogIdOf;
 use raft_state::LogIdListOf;
-use raft_testing::memory::{both, holds};
+use raft_testing::memory::{both_made, is_yes};
 use raft_testing::plain_log::Numbered;
 use raft_testing::words::{log_ids, number, words};
 use std::alloc::{AllocError, Global};
@@ -96,14 +96,14 @@ pub fn leads_to<C: Ord + Copy>(
 /// `is_key_list` has to answer `false`, `log_of` makes an empty list.
 fn call_is_right<C: Numbered + Drop>(alloc: Global, row: &str) -> Result<bool, AllocError> {
     let [call, keys, argument, answer, ..] = words(row);
-    let ids = both(log_ids::<C>(alloc, argument), log_ids::<C>(alloc, answer));
-    let (mut list, (ids, wanted)) = both(log_of::<C>(alloc, keys), ids)?;
+    let ids = both_made(log_ids::<C>(alloc, argument), log_ids::<C>(alloc, answer));
+    let (mut list, (ids, wanted)) = both_made(log_of::<C>(alloc, keys), ids)?;
     Ok(leads_to(&mut list, call, (argument, &ids), (answer, &wanted)))
 }
 
 /// Stops the test at the first row whose call has not the row's answer, and prints the row.
 pub fn assert_calls<C: Numbered + Drop>(rt: &impl Abort, alloc: Global, rows: &str) {
     for row in rows.trim().lines() {
-        assert_row(rt, row, holds(call_is_right::<C>(alloc, row)));
+        assert_row(rt, row, is_yes(call_is_right::<C>(alloc, row)));
     }
 }
