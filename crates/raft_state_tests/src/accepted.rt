@@ -1,6 +1,6 @@
 //! What a node has accepted of a leader.
 
-use crate::over_kinds::assert_over_both;
+use crate::over_kinds::{Test, assert_over_both};
 use crate::support::states::{NEW, State};
 use raft_base::{LeaderIdentity, LogIdOf, UTime, VoteIn};
 use raft_state::{AcceptedIn, VoteStateReader};
@@ -70,6 +70,11 @@ pub fn accepts<
 /// this log id for leader (5, 10), and none for (6, 10) and (4, 10).
 #[test]
 fn what_is_accepted_is_of_its_leader(rt: HostRuntime) -> Result<(), Fail> {
-    assert_over_both(&rt, rt.alloc(), ["accepts", NEW, NEW, "the leader 5.10"])?;
+    assert_over_both(
+        &rt,
+        rt.alloc(),
+        Test::Accepts,
+        [NEW, NEW, "the leader 5.10"],
+    )?;
     Ok(())
 }

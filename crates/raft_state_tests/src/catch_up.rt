@@ -1,6 +1,6 @@
 //! Followers that are caught up with a leader's state.
 
-use crate::over_kinds::assert_over_both;
+use crate::over_kinds::{Test, assert_over_both};
 use crate::support::followers::{Followers, caught_up, followers};
 use crate::support::rows::{Row, id};
 use crate::support::states::{NEW, State, VALID, log_of};
@@ -104,6 +104,11 @@ pub fn catches_up_right<L: Drop, C: Numbered + Drop + 'static>(
 /// granted is none, then (1, 99).
 #[test]
 fn followers_are_caught_up(rt: HostRuntime) -> Result<(), Fail> {
-    assert_over_both(&rt, rt.alloc(), ["catches up", NEW, VALID, "1.0,1.99"])?;
+    assert_over_both(
+        &rt,
+        rt.alloc(),
+        Test::CatchesUpRight,
+        [NEW, VALID, "1.0,1.99"],
+    )?;
     Ok(())
 }

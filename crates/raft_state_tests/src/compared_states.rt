@@ -8,7 +8,7 @@
 
 use crate::lives::make;
 use crate::membership_state::all_right;
-use crate::over_kinds::assert_over_both;
+use crate::over_kinds::{Test, assert_over_both};
 use crate::support::asserts::assert_row;
 use crate::support::memory::put;
 use crate::support::states::{NEW, State, log_of};
@@ -403,14 +403,14 @@ fn states_are_those_of_the_original(rt: HostRuntime) -> Result<(), Fail> {
     for row in CHANGES.trim().lines() {
         let (call, states) = row.split_once(" | ").unwrap_or((row, ""));
         let (from, to) = states.split_once(" | ").unwrap_or((states, ""));
-        assert_over_both(&rt, rt.alloc(), ["changes", from, to, call])?;
+        assert_over_both(&rt, rt.alloc(), Test::ChangesAs, [from, to, call])?;
     }
     for row in READS.trim().lines() {
         let (read, of) = row.split_once(" | ").unwrap_or((row, ""));
-        assert_over_both(&rt, rt.alloc(), ["asks", of, NEW, read])?;
+        assert_over_both(&rt, rt.alloc(), Test::ReadsAs, [of, NEW, read])?;
     }
     for row in RELATIONS.trim().lines() {
-        assert_over_both(&rt, rt.alloc(), ["validates", row, NEW, row])?;
+        assert_over_both(&rt, rt.alloc(), Test::Validates, [row, NEW, row])?;
     }
     Ok(())
 }

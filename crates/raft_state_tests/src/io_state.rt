@@ -1,6 +1,6 @@
 //! Storage's progress.
 
-use crate::over_kinds::assert_over_both;
+use crate::over_kinds::{Test, assert_over_both};
 use crate::support::memory::put;
 use crate::support::rows::id;
 use crate::support::states::{NEW, State, VALID};
@@ -69,6 +69,6 @@ pub fn takes_io<L: Eq + Copy + Drop, C: Numbered + Drop>(
 
 #[test]
 fn storage_progress_is_written_and_read(rt: HostRuntime) -> Result<(), Fail> {
-    assert_over_both(&rt, rt.alloc(), ["writes", VALID, NEW, VALID])?;
+    assert_over_both(&rt, rt.alloc(), Test::TakesIo, [VALID, NEW, VALID])?;
     Ok(())
 }

@@ -2,7 +2,7 @@
 //! of its memberships.
 
 use crate::laws::purge_to;
-use crate::over_kinds::assert_over_both;
+use crate::over_kinds::{Test, assert_over_both};
 use crate::support::asserts::assert_right;
 use crate::support::messages::{Entry, Snapshot};
 use crate::support::rows::{Row, id, row};
@@ -553,7 +553,7 @@ pub fn live<
 #[test]
 fn states_live_as_plain_lists_do(rt: HostRuntime) -> Result<(), Fail> {
     for life in LIVES.trim().split("\n\n") {
-        assert_over_both(&rt, rt.alloc(), ["lives", NEW, NEW, life])?;
+        assert_over_both(&rt, rt.alloc(), Test::Live, [NEW, NEW, life])?;
     }
     Ok(())
 }

@@ -1,8 +1,8 @@
 //! Tests of whole states, run over one kind of leader ids after the other.
 //!
-//! A test has a name, the rows of two states, and a row of its own. It is handed the states, so that
-//! it neither makes nor drops them: most functions of tests need few bounds of the leader ids, and
-//! one closure serves all tests.
+//! A test is a function, the rows of two states, and a row of its own. It is handed the states, so
+//! that it neither makes nor drops them: most functions of tests need few bounds of the leader ids,
+//! and one closure serves all tests.
 
 use crate::accepted::accepts;
 use crate::catch_up::catches_up_right;
@@ -20,22 +20,42 @@ use raft_testing::plain_log::Numbered;
 use std::alloc::{AllocError, Global};
 use std::process::Abort;
 
-/// Whether a test is right with a row, if it needs few bounds of the leader ids.
+/// A test of whole states. It has the name of the function that runs it.
+#[derive(Clone, Copy)]
+pub enum Test {
+    Accepts,
+    CatchesUpRight,
+    ChangesAs,
+    Grows,
+    HasBefore,
+    IsSoundAs,
+    Leads,
+    Live,
+    ReadsAs,
+    ReadsRight,
+    SendsAndCommits,
+    TakesIo,
+    Validates,
+}
+
+/// Whether a test is right with a row, if it needs few bounds of the leader ids. Returns false for
+/// each other test.
 fn is_right_with<L: Eq + Copy + Drop, C: Numbered + Drop + 'static>(
     rt: &(impl Abort + Print),
     alloc: Global,
     state: &mut State<L, C>,
     other: &State<L, C>,
-    [test, row]: [&str; 2],
+    test: Test,
+    row: &str,
 ) -> Result<bool, AllocError> {
     match test {
-        "asks" => reads_as(alloc, state, row),
-        "catches up" => catches_up_right(rt, alloc, state, other),
-        "grows" => Ok(grows(rt, alloc, state)),
-        "lacks" => has_before(alloc, state, row),
-        "reads" => Ok(reads_right(rt, alloc, state, other)),
-        "sends" => sends_and_commits(rt, alloc, state),
-        "validates" => Ok(validates(alloc, state, row)),
+        Test::CatchesUpRight => catches_up_right(rt, alloc, state, other),
+        Test::Grows => Ok(grows(rt, alloc, state)),
+        Test::HasBefore => has_before(alloc, state, row),
+        Test::ReadsAs => reads_as(alloc, state, row),
+        Test::ReadsRight => Ok(reads_right(rt, alloc, state, other)),
+        Test::SendsAndCommits => sends_and_commits(rt, alloc, state),
+        Test::Validates => Ok(validates(alloc, state, row)),
         _ => Ok(false),
     }
 }
@@ -48,28 +68,30 @@ fn is_right<
     rt: &(impl Abort + Print),
     alloc: Global,
     (state, other, plain): (&mut State<L, C>, &mut State<L, C>, &mut Plain),
-    [test, row]: [&str; 2],
+    test: Test,
+    row: &str,
 ) -> Result<bool, AllocError> {
     match test {
-        "accepts" => Ok(accepts(rt, alloc, state)),
-        "changes" => changes_as(alloc, state, other, row),
-        "is sound" => Ok(is_sound_as(state, L::new_leader(2, 1), row)),
-        "leads" => Ok(leads(alloc, state, row)),
-        "lives" => Ok(live(rt, alloc, state, plain, row)),
-        "writes" => takes_io(rt, alloc, other, state, VoteIn::new(2, 1)),
-        _ => is_right_with(rt, alloc, state, other, [test, row]),
+        Test::Accepts => Ok(accepts(rt, alloc, state)),
+        Test::ChangesAs => changes_as(alloc, state, other, row),
+        Test::IsSoundAs => Ok(is_sound_as(state, L::new_leader(2, 1), row)),
+        Test::Leads => Ok(leads(alloc, state, row)),
+        Test::Live => Ok(live(rt, alloc, state, plain, row)),
+        Test::TakesIo => takes_io(rt, alloc, other, state, VoteIn::new(2, 1)),
+        _ => is_right_with(rt, alloc, state, other, test, row),
     }
 }
 
-/// Runs a test over a kind of leader ids: its name, the rows of two states, and its own row. Stops
-/// if the test is wrong, and prints its own row.
+/// Runs a test over a kind of leader ids. The rows are those of two states, and the test's own row.
+/// If the test is wrong, the program stops and prints this last row.
 pub fn assert_over<
     L: LeaderIdentity<Id = u64, Committed = C> + Drop,
     C: Numbered + Default + Drop + 'static,
 >(
     rt: &(impl Abort + Print),
     alloc: Global,
-    [test, of, other_of, row]: [&str; 4],
+    test: Test,
+    [of, other_of, row]: [&str; 3],
 ) -> Result<(), AllocError> {
     let states = both_made(
         State::<L, C>::try_default(alloc),
@@ -79,12 +101,7 @@ pub fn assert_over<
         let (states, plain) = held;
         fill(alloc, &mut states.0, of)?;
         fill(alloc, &mut states.1, other_of)?;
-        is_right(
-            rt,
-            alloc,
-            (&mut states.0, &mut states.1, plain),
-            [test, row],
-        )
+        is_right(rt, alloc, (&mut states.0, &mut states.1, plain), test, row)
     })?;
     assert_row(rt, row, is_right);
     Ok(())
@@ -94,8 +111,9 @@ pub fn assert_over<
 pub fn assert_over_both(
     rt: &(impl Abort + Print),
     alloc: Global,
-    test: [&str; 4],
+    test: Test,
+    rows: [&str; 3],
 ) -> Result<(), AllocError> {
-    assert_over::<LeaderId<u64>, _>(rt, alloc, test)?;
-    assert_over::<StandardLeader, _>(rt, alloc, test)
+    assert_over::<LeaderId<u64>, _>(rt, alloc, test, rows)?;
+    assert_over::<StandardLeader, _>(rt, alloc, test, rows)
 }

@@ -6,7 +6,7 @@ ghost use Rattle.std.specs.Cmp.{po};
 ghost use Rattle.std.specs.Ordering.{nat_cmp};
 ghost use Rattle.std.specs.Prelude.{◌/◌, Some, refl};
 
-use crate::over_kinds::assert_over;
+use crate::over_kinds::{Test, assert_over};
 use crate::support::states::{NEW, VALID, log_of};
 use raft_base::{LeaderIdentity, LeaderKind};
 use raft_progress::ProgressEntryOf;
@@ -156,6 +156,6 @@ fn searches(alloc: Global, log: &mut State) -> Result<bool, AllocError> {
 fn leaders_of_ones_own_will_do(rt: HostRuntime) -> Result<(), Fail> {
     let alloc = rt.alloc();
     assert!(rt; with_made(State::try_default(alloc), |state| searches(alloc, state))?);
-    assert_over::<RegionLeader, _>(&rt, alloc, ["catches up", NEW, VALID, "1.0,1.99"])?;
+    assert_over::<RegionLeader, _>(&rt, alloc, Test::CatchesUpRight, [NEW, VALID, "1.0,1.99"])?;
     Ok(())
 }

@@ -13,7 +13,7 @@ ghost use Rattle.std.specs.Prelude.{◌≡◌, IfOk, IfSome, IsTrue, None, OnErr
 
 use crate::laws::send;
 use crate::lives::makes;
-use crate::over_kinds::assert_over_both;
+use crate::over_kinds::{Test, assert_over_both};
 use crate::support::followers::{Followers, caught_up, followers};
 use crate::support::rows::{Row, id, row};
 use crate::support::states::{NEW, StandardState, State, UNLOGGED, VALID, fill};
@@ -373,10 +373,10 @@ fn nobody_leads(alloc: Global, state: &mut StandardState) -> Result<bool, AllocE
 #[test]
 fn a_state_validates_and_is_sound(rt: HostRuntime) -> Result<(), Fail> {
     for row in RELATIONS.trim().lines() {
-        assert_over_both(&rt, rt.alloc(), ["validates", row, NEW, row])?;
+        assert_over_both(&rt, rt.alloc(), Test::Validates, [row, NEW, row])?;
     }
     for row in SOUND.trim().lines() {
-        assert_over_both(&rt, rt.alloc(), ["is sound", row, NEW, row])?;
+        assert_over_both(&rt, rt.alloc(), Test::IsSoundAs, [row, NEW, row])?;
     }
     Ok(())
 }
@@ -386,10 +386,10 @@ fn a_state_validates_and_is_sound(rt: HostRuntime) -> Result<(), Fail> {
 #[test]
 fn a_state_reads_and_moves(rt: HostRuntime) -> Result<(), Fail> {
     let alloc = rt.alloc();
-    assert_over_both(&rt, alloc, ["reads", VALID, UNLOGGED, VALID])?;
-    assert_over_both(&rt, alloc, ["grows", VALID, NEW, GROWS])?;
+    assert_over_both(&rt, alloc, Test::ReadsRight, [VALID, UNLOGGED, VALID])?;
+    assert_over_both(&rt, alloc, Test::Grows, [VALID, NEW, GROWS])?;
     for row in LEADS.trim().lines() {
-        assert_over_both(&rt, alloc, ["leads", VALID, NEW, row])?;
+        assert_over_both(&rt, alloc, Test::Leads, [VALID, NEW, row])?;
     }
     let standard = StandardState::try_default(alloc);
     assert!(rt; with_made(standard, |state| nobody_leads(alloc, state))?);
@@ -399,7 +399,7 @@ fn a_state_reads_and_moves(rt: HostRuntime) -> Result<(), Fail> {
 #[test]
 fn a_follower_lacks_what_conflicts(rt: HostRuntime) -> Result<(), Fail> {
     for row in ASKED.trim().lines() {
-        assert_over_both(&rt, rt.alloc(), ["lacks", VALID, NEW, row])?;
+        assert_over_both(&rt, rt.alloc(), Test::HasBefore, [VALID, NEW, row])?;
     }
     Ok(())
 }
@@ -450,6 +450,6 @@ pub fn sends_and_commits<L: Drop, C: Numbered + Drop + 'static>(
 /// and sends an absent snapshot.
 #[test]
 fn a_leader_sends_and_commits(rt: HostRuntime) -> Result<(), Fail> {
-    assert_over_both(&rt, rt.alloc(), ["sends", VALID, NEW, VALID])?;
+    assert_over_both(&rt, rt.alloc(), Test::SendsAndCommits, [VALID, NEW, VALID])?;
     Ok(())
 }
