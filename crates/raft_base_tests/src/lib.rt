@@ -1,7 +1,7 @@
 //! The tests of `raft_base`, through its public calls alone. It ships nothing.
 //!
-//! A file has the tests of the module of `raft_base` that has its name, and `order` has those of all
-//! comparisons. Those that go over all modules have the name of what they test: `texts`,
+//! A file has the tests of the module of `raft_base` that has its name, and `order` has those of
+//! all comparisons. Those that go over all modules have the name of what they test: `texts`,
 //! `compared` with the original, and `allocations` for allocations that are refused.
 //!
 //! A function makes the values and says which of them is wrong, and the test asserts that once,

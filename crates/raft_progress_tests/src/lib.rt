@@ -3,9 +3,9 @@
 //!
 //! A file has the tests of the module of `raft_progress` that has its name. Those that go over
 //! several modules have the name of what they test: `at_least` quorums of a stated size, `events`
-//! of any kind against a table, lives `compared` with the original, `allocations` for allocations that are refused, `laws` by their
-//! callers, `follower_laws` by callers over a leader's followers, ids whose order is `reversed`,
-//! `texts`, and `uses` of the theorem.
+//! of any kind against a table, lives `compared` with the original, `allocations` for allocations
+//! that are refused, `laws` by their callers, `follower_laws` by callers over a leader's followers,
+//! ids whose order is `reversed`, `texts`, and `uses` of the theorem.
 #![tactic(auto)]
 
 #[cfg(test)]

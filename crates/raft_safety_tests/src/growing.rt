@@ -8,13 +8,13 @@ use raft_testing::words::{lists, number, words};
 use std::alloc::{AllocError, Global};
 use std::test::Fail;
 
-/// Rows of calls: the checker learns of the configs that entries of a content hold, or takes events.
-/// At the end of a row is `ok`, or what the call or the last event is refused for.
+/// Rows of calls: the checker learns of the configs that entries of a content hold, or takes
+/// events. At the end of a row is `ok`, or what the call or the last event is refused for.
 ///
 /// Server 0 leads in term 1. It commits an entry without a config, then one with the config of four
-/// servers, and then one with the config of five. Each is acknowledged by 0, 1 and one other server.
-/// Servers 2, 3 and 4 are a majority of the five servers, and servers 3 and 4 are none. Two more
-/// servers become known, but no leader may add both at once.
+/// servers, and then one with the config of five. Each is acknowledged by 0, 1 and one other
+/// server. Servers 2, 3 and 4 are a majority of the five servers, and servers 3 and 4 are none. Two
+/// more servers become known, but no leader may add both at once.
 const ROWS: &str = "\
 campaigned 0 1; granted 1 1 0; wrote 0 1 1.10; appended 0 1 0 0 1.10; acked 0 1 0 1; \
     appended 1 1 0 0 1.10; acked 1 1 0 1; committed 0 1 1 1 = ok

@@ -14,8 +14,8 @@ granted 1 1 0; appended 1 1 0 0 1.10; acked 1 1 0 1; applied 1 1 0 1 \
     | campaigned 0 1; wrote 0 1 1.10; appended 0 1 0 0 1.10; acked 0 1 0 1; committed 0 1 1 1; \
     applied 0 1 0 1";
 
-/// Lists, and what is expected: that all events are placed, or which are not. The follower's list is
-/// first, so it waits for the leader's events again and again. Without the vote, the follower's
+/// Lists, and what is expected: that all events are placed, or which are not. The follower's list
+/// is first, so it waits for the leader's events again and again. Without the vote, the follower's
 /// acknowledgement, the campaign, the written entry or the commit not all events are placed.
 const EARLY: &str = "\
 granted 1 1 0; appended 1 1 0 0 1.10; acked 1 1 0 1; applied 1 1 0 1 \

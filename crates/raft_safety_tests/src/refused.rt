@@ -12,8 +12,8 @@ const LED: &str = "campaigned 0 1; granted 1 1 0; wrote 0 1 1.10; appended 0 1 0
     acked 0 1 0 1; appended 4 1 0 0 1.10; campaigned 2 2;";
 
 /// Rows of events that follow `LED`, and the rule that the last one breaks, or `ok`. The vote of
-/// server 4 is late, and the candidate had no entry when it campaigned. At last a leader commits and
-/// proposes a membership, and a late vote is taken, and a config with one server more.
+/// server 4 is late, and the candidate had no entry when it campaigned. At last a leader commits
+/// and proposes a membership, and a late vote is taken, and a config with one server more.
 const AFTER_LED: &str = "\
 appended 1 1 0 0 1.11 = ForeignEntries
 campaigned 0 1 = CampaignedTwice

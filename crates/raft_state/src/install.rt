@@ -159,8 +159,8 @@ impl<NID: NodeId, N: Node, I: Instant, L: Drop, C: Ord + Copy + Drop> RaftStateI
             || log_id_at_most(*stored.log_id(), effective)
     }
 
-    /// Returns the log ids after a snapshot is installed. If the log has the snapshot's last log id,
-    /// the log is purged to it, and what is past it stays. Otherwise nothing of the log stays.
+    /// Returns the log ids after a snapshot is installed. If the log has the snapshot's last log
+    /// id, the log is purged to it, and what is past it stays. Otherwise nothing of the log stays.
     fn log_after_install(
         &self,
         alloc: Global,

@@ -44,8 +44,8 @@ pub trait QuorumSet<ID: Copy + Ord>: Drop {
         0
     }
 
-    /// Returns the size that decides, if there is one: distinct voters are a quorum exactly if there
-    /// are at least that many of them. The default body returns `None`.
+    /// Returns the size that decides, if there is one: distinct voters are a quorum exactly if
+    /// there are at least that many of them. The default body returns `None`.
     ///
     /// A caller that knows the size and counts voters need not call `is_quorum`. A list or a set of
     /// voters and an `AtLeast` have such a size, and their contracts say which. A joint of one of

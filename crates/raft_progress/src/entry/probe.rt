@@ -11,11 +11,12 @@ use raft_base::{LogIdRangeOf, LogStateReader};
 const SEARCHED: u64 = 16;
 
 impl<C: Ord + Copy> ProgressEntryOf<C> {
-    /// Puts in flight what is to be sent next: a probe, if one is due, or what `next_send` gives, of
-    /// one entry at most in a search. Returns whether something was sent, or at least a request
+    /// Puts in flight what is to be sent next: a probe, if one is due, or what `next_send` gives,
+    /// of one entry at most in a search. Returns whether something was sent, or at least a request
     /// number was used.
-    // What a search needs is not inlined, so that a follower that has most of the log pays one test.
-    // The result is no copy of what is in flight, because the compiler would copy it three times.
+    // What a search needs is not inlined, so that a follower that has most of the log pays one
+    // test. The result is no copy of what is in flight, because the compiler would copy it three
+    // times.
     #[inline(always)]
     pub(crate) fn probe_or_send<L: LogStateReader<C>>(&mut self, log: &L, max_entries: u64) -> bool
         ensures sent { after_send C.cmp self.old (L.log_view log.now) max_entries

@@ -46,8 +46,8 @@ impl<ID: Copy + Ord, V: ProgressPart<P>, P: Copy + Ord, QS: QuorumSet<ID>> VecPr
     }
 
     /// Takes over the counts of another progress, and its values one after another, or returns an
-    /// allocation error. An id that is unknown here is passed over. `sides` are those of two configs
-    /// whose majorities are the quorums, if they are known.
+    /// allocation error. An id that is unknown here is passed over. `sides` are those of two
+    /// configs whose majorities are the quorums, if they are known.
     pub(crate) fn take_over(&mut self, from: &Self, sides: Option<&Sides>) -> Result<(), AllocError>
     where
         V: Clone,
