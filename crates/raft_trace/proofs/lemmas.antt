@@ -1,3 +1,7 @@
 pub mod InputLemmas
 pub mod FieldLemmas
+pub mod NameLemmas
 pub mod RunLemmas
+pub mod VoteLemmas
+pub mod ListLemmas
+pub mod StartLemmas

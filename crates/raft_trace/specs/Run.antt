@@ -1,31 +1,75 @@
 -- A recorded run, and the trace that its lines say.
-use Rattle.std.specs.Prelude.{◌≡◌, ◌⊎◌, ℕ, true, List, [], ◌∷◌, Option, Some, None, ⊤, codes}
+use Rattle.std.specs.Prelude.{◌≡◌, ◌⊎◌, ℕ, true, List, [], ◌∷◌, ◌++◌, Option, Some, None, codes}
+use Rattle.std.specs.Global.{Vec}
+use Rattle.std.specs.List.{All}
 use Rattle.serde_json.specs.Data.{Data}
+use Rattle.serde_json.specs.Find.{get}
 use Rattle.serde_json.specs.Read.{read}
-use Rattle.raft_safety.specs.Trace.{AreExact, IsSafeTrace, Tests, TraceEvent, are_allowed}
+use Rattle.raft_safety.specs.Ranks.{IsAmong}
+use Rattle.raft_safety.specs.Trace.{AreExact, IsSafeTrace, Tests, TraceEvent, Appended, Acked, Wrote, Committed, are_allowed}
 use Rattle.raft_safety.specs.Checker.{Keeps, configs_of, kept_by}
+use Rattle.raft_safety.specs.declared.checker.violation.Violation.TheVariants.{Rule as BreaksRule}
 use Rattle.raft_safety.specs.declared.memberships.Memberships.{Memberships}
 use Rattle.raft_trace.specs.Fields.{HasConfigs, IsFirst, IsNamed}
-use Rattle.raft_trace.specs.Input.{lines}
 use Rattle.raft_trace.specs.Line.{IsVote, Says}
+use Rattle.raft_trace.specs.Names.{AreApart, Extends, IsTable, Numbering, numbering}
+use Rattle.raft_trace.specs.declared.fault.Fault.{Fault}
+use Rattle.raft_trace.specs.declared.fault.Fault.TheVariants.{Malformed, Refused, Skips}
+use Rattle.raft_trace.specs.Votes.{AreVotesIn}
 use Rattle.raft_trace.specs.declared.judge.Judge.{Judge}
 
--- a trace has one event more, or the event is a vote that is left out
+-- a trace has one event more, or the event is a vote that the trace has already
 abbrev pub Adds : TraceEvent ℕ ℕ ℕ → List (TraceEvent ℕ ℕ ℕ) → List (TraceEvent ℕ ℕ ℕ) → Type 0
-Adds e before after = (after ≡ e ∷ before) ⊎ (IsVote e × (after ≡ before))
+Adds e before after = (after ≡ e ∷ before) ⊎ (IsVote e × IsAmong e before × (after ≡ before))
 
--- a trace has the event more that a line says. An empty line says nothing
-abbrev pub AddsLine : ℕ → List ℕ → List (TraceEvent ℕ ℕ ℕ) → List (TraceEvent ℕ ℕ ℕ) → Type 0
-AddsLine first line before after =
-    ((line ≡ []) × (after ≡ before))
-    ⊎ ((d : Data) × (e : TraceEvent ℕ ℕ ℕ) × (read line ≡ Some d) × Says first d e × Adds e before after)
+-- a membership, with the content of the entries that hold it
+abbrev pub Held : Type 0
+Held = ℕ × Vec (Vec ℕ)
 
--- a trace is what these lines say, in their order, but for votes that are left out. The latest line and
--- the latest event are first
-abbrev pub IsTraceOf : ℕ → List (List ℕ) → List (TraceEvent ℕ ℕ ℕ) → Type 0
-IsTraceOf first [] es = es ≡ []
-IsTraceOf first (line ∷ earlier) es =
-    (before : List (TraceEvent ℕ ℕ ℕ)) × IsTraceOf first earlier before × AddsLine first line before es
+-- a line says which membership the entry of its event holds, if it holds one
+abbrev pub SaysMembership : Numbering → Data → TraceEvent ℕ ℕ ℕ → Option Held → Type 0
+SaysMembership number_of d (Wrote c t e) (Some m) = (m.0 ≡ e.content) × HasConfigs number_of d m.1.items
+SaysMembership number_of d (Wrote c t e) None = get (codes "voters") d ≡ None
+SaysMembership number_of d e (Some m) = ⊥
+SaysMembership number_of d e None = Unit {0}
+
+-- there is this membership more, or it was there before
+abbrev pub AddsMembership : Option Held → List Held → List Held → Type 0
+AddsMembership None before after = after ≡ before
+AddsMembership (Some m) before after = (after ≡ before ++ m ∷ []) ⊎ (IsAmong m before × (after ≡ before))
+
+-- a trace has the event more that a line says, and there is the membership more that its entry holds. An
+-- empty line says nothing
+abbrev pub AddsLine : Numbering → ℕ → List ℕ → List Held → List (TraceEvent ℕ ℕ ℕ) → List Held
+    → List (TraceEvent ℕ ℕ ℕ) → Type 0
+AddsLine number_of first line known before held after =
+    ((line ≡ []) × (held ≡ known) × (after ≡ before))
+    ⊎ ((d : Data) × (e : TraceEvent ℕ ℕ ℕ) × (m : Option Held) × (read line ≡ Some d)
+    × Says number_of first d e × SaysMembership number_of d e m × AddsMembership m known held
+    × Adds e before after)
+
+-- an event that may be filled in, though no line says it: a server takes or acknowledges entries, or a
+-- leader commits them
+abbrev pub IsFilledIn : TraceEvent ℕ ℕ ℕ → Type 0
+IsFilledIn (Appended s t c n sent) = Unit {0}
+IsFilledIn (Acked s t c n) = Unit {0}
+IsFilledIn (Committed c t n m) = Unit {0}
+IsFilledIn e = ⊥
+
+-- a trace has events more, each of which may be filled in
+abbrev pub FillsIn : List (TraceEvent ℕ ℕ ℕ) → List (TraceEvent ℕ ℕ ℕ) → Type 0
+FillsIn before after =
+    (filled : List (TraceEvent ℕ ℕ ℕ)) × All IsFilledIn filled × (after ≡ filled ++ before)
+
+-- a trace is what these lines say, in their order, but for votes that it has already, and for events
+-- that are filled in at any place. The memberships are those that lines say. The latest line and the
+-- latest event are first
+abbrev pub IsTraceOf : Numbering → ℕ → List (List ℕ) → List Held → List (TraceEvent ℕ ℕ ℕ) → Type 0
+IsTraceOf number_of first [] held es = (held ≡ []) × FillsIn [] es
+IsTraceOf number_of first (line ∷ earlier) held es =
+    (known : List Held) × (before : List (TraceEvent ℕ ℕ ℕ)) × IsTraceOf number_of first earlier known before
+    × ((after : List (TraceEvent ℕ ℕ ℕ)) × AddsLine number_of first line known before held after
+    × FillsIn after es)
 
 -- lines after which others come, the latest first
 abbrev pub and_lines : List (List ℕ) → List (List ℕ) → List (List ℕ)
@@ -33,44 +77,79 @@ and_lines earlier [] = earlier
 and_lines earlier (line ∷ later) = and_lines (line ∷ earlier) later
 
 -- how a line says that the cluster starts: the configs of the voters, and the index of the first entry
-abbrev pub SaysStart : List ℕ → Memberships ℕ ℕ → ℕ → Type 0
-SaysStart line members first =
+abbrev pub SaysStart : Numbering → List ℕ → List (Vec ℕ) → ℕ → Type 0
+SaysStart number_of line configs first =
     (d : Data) × (read line ≡ Some d) × IsNamed (codes "started") d
-    × HasConfigs d members.initial.items × (members.held.items ≡ []) × IsFirst first d
+    × HasConfigs number_of d configs × IsFirst first d
+
+-- two lines say that the cluster starts, with the same voters and the same index of the first entry
+abbrev pub SayOneStart : List ℕ → List ℕ → Type 0
+SayOneStart line other =
+    (number_of : Numbering) × AreApart number_of
+    × ((configs : List (Vec ℕ)) × (first : ℕ) × SaysStart number_of line configs first
+    × SaysStart number_of other configs first)
+
+-- the lines after the first one, without those that say the start again. These say no event
+abbrev pub LeavesStartsOut : List ℕ → List (List ℕ) → List (List ℕ) → Type 0
+LeavesStartsOut first_line [] kept = kept ≡ []
+LeavesStartsOut first_line (line ∷ later) kept =
+    (SayOneStart first_line line × LeavesStartsOut first_line later kept)
+    ⊎ ((rest : List (List ℕ)) × (kept ≡ line ∷ rest) × LeavesStartsOut first_line later rest)
+
+-- a line is broken: it is no event, it has not the next index of its leader, or it breaks a rule
+abbrev pub IsBroken : Fault → Type 0
+IsBroken Malformed = Unit {0}
+IsBroken (Skips next) = Unit {0}
+IsBroken (Refused (BreaksRule rule)) = Unit {0}
+IsBroken fault = ⊥
 
 module _ (tests : Memberships ℕ ℕ → Tests ℕ ℕ ℕ (Option ℕ)) where
-  -- the lines after the first one are a trace that is allowed, and so it is safe
-  pub record SafeRun (text : List ℕ) : Type 0 where
+  -- the lines after the first one are a trace that is allowed, and so it is safe. The numbers in it stand
+  -- for the names that the lines have
+  pub record SafeRun (run : List (List ℕ)) : Type 0 where
     pub first_line : List ℕ
     pub later : List (List ℕ)
-    pub lines_are : lines text ≡ first_line ∷ later
+    pub lines_are : run ≡ first_line ∷ later
+    pub kept : List (List ℕ)
+    pub are_kept : LeavesStartsOut first_line later kept
     pub members : Memberships ℕ ℕ
     pub first : ℕ
-    pub starts : SaysStart first_line members first
+    pub number_of : Numbering
+    pub apart : AreApart number_of
+    pub starts : SaysStart number_of first_line members.initial.items first
     pub trace : List (TraceEvent ℕ ℕ ℕ)
-    pub is_trace : IsTraceOf first (and_lines [] later) trace
+    pub is_trace : IsTraceOf number_of first (and_lines [] kept) members.held.items trace
     pub allowed : are_allowed (tests members) trace ≡ true
     pub safe : IsSafeTrace (tests members) trace
 
-  -- the text is a safe run, if it is known
-  abbrev pub IsSafeRun : Option (List ℕ) → Type 0
-  IsSafeRun None = ⊤
-  IsSafeRun (Some text) = SafeRun text
+  -- a judge keeps the events of a trace, remembers votes of it, and has a table of names
+  pub record KeepsTrace (judge : Judge) (es : List (TraceEvent ℕ ℕ ℕ)) : Type 0 where
+    pub exact : AreExact (tests (configs_of judge.checker))
+    pub table : IsTable judge.names
+    pub keeps : Keeps (tests (configs_of judge.checker)) es (kept_by judge.checker)
+    pub votes : AreVotesIn judge.counts.votes.entries es
+
+  -- the memberships that a judge knows of entries
+  abbrev pub held_by : Judge → List Held
+  held_by judge = (configs_of judge.checker).held.items
 
   -- a judge has taken these lines, the latest first
   pub record HasTaken (taken : List (List ℕ)) (judge : Judge) : Type 0 where
-    pub exact : AreExact (tests (configs_of judge.checker))
     pub trace : List (TraceEvent ℕ ℕ ℕ)
-    pub is_trace : IsTraceOf judge.first taken trace
-    pub keeps : Keeps (tests (configs_of judge.checker)) trace (kept_by judge.checker)
+    pub is_trace : IsTraceOf (numbering judge.names) judge.first taken (held_by judge) trace
+    pub keeps : KeepsTrace judge trace
 
   -- a judge that has taken no line after the first one
   abbrev pub IsStarted : List ℕ → Judge → Type 0
-  IsStarted line judge = SaysStart line (configs_of judge.checker) judge.first × HasTaken [] judge
+  IsStarted line judge =
+      SaysStart (numbering judge.names) line (configs_of judge.checker).initial.items judge.first
+      × HasTaken [] judge
 
-  -- a judge goes on with the same members and the same first index
+  -- a judge goes on with the same first membership and the same first index, and names keep their numbers
   abbrev pub GoesOn : Judge → Judge → Type 0
-  GoesOn old new = (configs_of new.checker ≡ configs_of old.checker) × (new.first ≡ old.first)
+  GoesOn old new =
+      ((configs_of new.checker).initial ≡ (configs_of old.checker).initial) × (new.first ≡ old.first)
+      × Extends (numbering old.names) (numbering new.names)
 
   -- a judge takes one line more
   abbrev pub Takes : List ℕ → Judge → Judge → Type 0
@@ -78,18 +157,40 @@ module _ (tests : Memberships ℕ ℕ → Tests ℕ ℕ ℕ (Option ℕ)) where
       GoesOn old new
       × ((taken : List (List ℕ)) → HasTaken taken old → HasTaken (line ∷ taken) new)
 
-  -- a judge takes one event more
-  abbrev pub TakesEvent : TraceEvent ℕ ℕ ℕ → Judge → Judge → Type 0
-  TakesEvent e old new =
-      GoesOn old new
-      × (AreExact (tests (configs_of old.checker)) → (es : List (TraceEvent ℕ ℕ ℕ))
-      → Keeps (tests (configs_of old.checker)) es (kept_by old.checker)
-      → (after : List (TraceEvent ℕ ℕ ℕ)) × Adds e es after
-      × Keeps (tests (configs_of old.checker)) after (kept_by new.checker))
+  -- a judge takes no line: what it had taken, it still has taken
+  abbrev pub Refuses : Judge → Judge → Type 0
+  Refuses old new = GoesOn old new × ((taken : List (List ℕ)) → HasTaken taken old → HasTaken taken new)
 
-  -- a judge takes all lines of a text, if it is known
-  abbrev pub TakesAll : Option (List ℕ) → Judge → Judge → Type 0
-  TakesAll None old new = ⊤
-  TakesAll (Some text) old new =
+  -- if a judge keeps the events of a trace, it then keeps those of another, which this relates to the
+  -- first, and it knows the membership more, if there is one
+  abbrev pub KeepsMore : (List (TraceEvent ℕ ℕ ℕ) → List (TraceEvent ℕ ℕ ℕ) → Type 0) → Option Held → Judge → Judge
+      → Type 0
+  KeepsMore P m old new =
       GoesOn old new
-      × ((taken : List (List ℕ)) → HasTaken taken old → HasTaken (and_lines taken (lines text)) new)
+      × ((es : List (TraceEvent ℕ ℕ ℕ)) → KeepsTrace old es
+      → (after : List (TraceEvent ℕ ℕ ℕ)) × P es after
+      × AddsMembership m (held_by old) (held_by new) × KeepsTrace new after)
+
+  -- a judge keeps the same events
+  abbrev pub Stays : Judge → Judge → Type 0
+  Stays old new = KeepsMore (λ es after. after ≡ es) None old new
+
+  -- a judge fills in events
+  abbrev pub Fills : Judge → Judge → Type 0
+  Fills old new = KeepsMore FillsIn None old new
+
+  -- a judge takes one event more, whose entry holds the membership, if there is one
+  abbrev pub TakesEvent : TraceEvent ℕ ℕ ℕ → Option Held → Judge → Judge → Type 0
+  TakesEvent e m old new = KeepsMore (Adds e) m old new
+
+  -- a judge takes one event more, whose entry holds this membership or an equal one, as a line says it
+  abbrev pub TakesHolding : TraceEvent ℕ ℕ ℕ → Held → Judge → Judge → Type 0
+  TakesHolding e m old new =
+      (number_of : Numbering) (d : Data) → SaysMembership number_of d e (Some m)
+      → (n : Held) × SaysMembership number_of d e (Some n) × TakesEvent e (Some n) old new
+
+  -- a judge takes the event that a line says
+  abbrev pub TakesSaid : Data → Judge → Judge → Type 0
+  TakesSaid d old new =
+      (e : TraceEvent ℕ ℕ ℕ) × ((m : Option Held) × Says (numbering old.names) old.first d e
+      × SaysMembership (numbering old.names) d e m × TakesEvent e m old new)

@@ -1,171 +1,313 @@
 -- Lines that a judge takes.
-use Rattle.std.specs.Prelude.{◌≡◌, ℕ, Bool, true, false, List, [], ◌∷◌, Option, Some, None, ⊤}
-use Rattle.std.proofs.Common.{refl, sym, ap, subst, ◌∙◌, inl, inr}
-use Rattle.std.specs.Io.KnownBytes.{Keeps}
+use Rattle.std.specs.Prelude.{◌≡◌, ◌<◌, ℕ, length, get_or, Bool, List, [], ◌∷◌, ◌++◌, Option, Some, None, Result, Ok, Err, IfErr}
+use Rattle.std.proofs.Common.{refl, sym, ap, subst, ◌∙◌, inl, inr, append_assoc, arith, zero, suc}
+use Rattle.std.proofs.lemmas.List.Elements.{All-append, All-cons, All-nil}
+use Rattle.std.specs.Global.{Vec}
 use Rattle.serde_json.specs.Data.{Data}
 use Rattle.serde_json.specs.Read.{read}
-use Rattle.raft_safety.specs.Trace.{AreExact, Tests, TracesAreExecutions, TraceEvent}
-use Rattle.raft_safety.specs.Checker.{Keeps as KeepsEvents, configs_of, kept_by}
+use Rattle.raft_safety.specs.Trace.{AreExact, Tests, TraceEvent, Campaigned, Granted, Appended, Acked, Restarted, Wrote, Committed, Applied}
+use Rattle.raft_safety.specs.Checker.{IsUnused, Keeps as KeepsEvents, KeepsAlso, OfAll, configs_of, kept_by}
+use Rattle.raft_safety.specs.Ranks.{IsAmong}
 use Rattle.raft_safety.specs.declared.memberships.Memberships.{Memberships}
-use Rattle.raft_trace.specs.Input.{TakesLine, lines}
+use Rattle.raft_trace.specs.Fields.{HasConfigs}
 use Rattle.raft_trace.specs.Line.{Says}
-use Rattle.raft_trace.specs.Run.{
-  GoesOn,
-  HasTaken,
-  IsSafeRun,
-  IsStarted,
-  IsTraceOf,
-  SafeRun,
-  SaysStart,
-  Takes,
-  TakesAll,
-  TakesEvent,
-  and_lines,
-}
+use Rattle.raft_trace.specs.Run.{AddsLine, Fills, FillsIn, GoesOn, Held, IsFilledIn, IsStarted, IsTraceOf, KeepsMore, KeepsTrace, Refuses, SaysMembership, SaysStart, Stays, Takes, TakesEvent, TakesSaid, held_by}
+use Rattle.raft_trace.specs.declared.counts.Counts.{Counts}
 use Rattle.raft_trace.specs.declared.judge.Judge.{Judge}
+use Rattle.raft_trace.specs.Names.{IsTable, Learns, Numbering, numbering}
+use Rattle.raft_trace.specs.Votes.{AreVotesIn}
+use Rattle.raft_trace.specs.declared.names.Names.{Names}
+use Rattle.raft_trace.proofs.lemmas.NameLemmas.{trace_more}
+use Rattle.raft_trace.proofs.lemmas.VoteLemmas.{no_votes_in}
+
+-- what holds of each error holds of the one that is returned, if there is one
+pub whatever_err : {T E : Type 0} → (r : Result T E) (P : E → Type 0) → ((e : E) → P e) → IfErr r P
+whatever_err (Ok x) P h = tt
+whatever_err (Err e) P h = h e
+
+-- an item of a list is among them
+pub among_at : {X : Type 0} (xs : List X) (i : ℕ) (x : X) → i < length xs → x ≡ get_or xs i x → IsAmong x xs
+among_at [] i x within is = absurd (omega arith)
+among_at (y ∷ ys) zero x within is = inl is
+among_at (y ∷ ys) (suc i) x within is = inr (among_at ys i x (omega arith) is)
+
+-- a line says a membership if it says an equal one
+pub says_same : (number_of : Numbering) (d : Data) (e : TraceEvent ℕ ℕ ℕ) (n : ℕ) (a b : Vec (Vec ℕ))
+    → (HasConfigs number_of d b.items → HasConfigs number_of d a.items) → SaysMembership number_of d e (Some (n, b))
+    → SaysMembership number_of d e (Some (n, a))
+says_same number_of d (Campaigned s t) n a b same says = says
+says_same number_of d (Granted s t c) n a b same says = says
+says_same number_of d (Appended s t c m sent) n a b same says = says
+says_same number_of d (Acked s t c m) n a b same says = says
+says_same number_of d (Restarted s m) n a b same says = says
+says_same number_of d (Wrote c t e) n a b same says = (says.0, same says.1)
+says_same number_of d (Committed c t m k) n a b same says = says
+says_same number_of d (Applied s t c m) n a b same says = says
+
+-- ---- events that are filled in
+
+pub fills_none : (es : List (TraceEvent ℕ ℕ ℕ)) → FillsIn es es
+fills_none es = ([], All-nil IsFilledIn, refl)
+
+pub fills_more : (before es after : List (TraceEvent ℕ ℕ ℕ)) → FillsIn before es → FillsIn es after
+    → FillsIn before after
+fills_more before es after one two = (
+  two.0 ++ one.0,
+  All-append IsFilledIn two.0 one.0 two.1 one.1,
+  two.2 ∙ ap (λ (l : List (TraceEvent ℕ ℕ ℕ)). two.0 ++ l) one.2 ∙ sym (append_assoc two.0 one.0 before),
+)
+
+pub fills_one : (e : TraceEvent ℕ ℕ ℕ) (es : List (TraceEvent ℕ ℕ ℕ)) → IsFilledIn e → FillsIn es (e ∷ es)
+fills_one e es may = (e ∷ [], All-cons IsFilledIn e [] may (All-nil IsFilledIn), refl)
+
+-- events that are filled in after a trace of lines are part of a trace of these lines
+pub trace_fills : (number_of : Numbering) (first : ℕ) (taken : List (List ℕ)) (held : List Held)
+    (es after : List (TraceEvent ℕ ℕ ℕ)) → IsTraceOf number_of first taken held es → FillsIn es after
+    → IsTraceOf number_of first taken held after
+trace_fills number_of first [] held es after is fills = (is.0, fills_more [] es after is.1 fills)
+trace_fills number_of first (line ∷ taken) held es after is fills =
+    (is.0, is.1, is.2, (is.3.0, is.3.1, fills_more is.3.0 es after is.3.2 fills))
+
+-- votes that are in a trace are in it once events are filled in
+pub votes_filled : (votes : List (ℕ × (ℕ × ℕ))) (filled es : List (TraceEvent ℕ ℕ ℕ)) → AreVotesIn votes es
+    → AreVotesIn votes (filled ++ es)
+votes_filled votes [] es are = are
+votes_filled votes (e ∷ filled) es are = λ s v is. inr (votes_filled votes filled es are s v is)
 
 module _ (tests : Memberships ℕ ℕ → Tests ℕ ℕ ℕ (Option ℕ)) where
   -- a judge that is made has taken no line
   pub started : (line : List ℕ) (judge : Judge) (members : Memberships ℕ ℕ) → configs_of judge.checker ≡ members
-      → SaysStart line members judge.first → AreExact (tests members)
-      → KeepsEvents (tests members) [] (kept_by judge.checker) → IsStarted tests line judge
-  started line judge members is says exact keeps = (
-    subst (λ (m : Memberships ℕ ℕ). SaysStart line m judge.first) (sym is) says,
+      → SaysStart (numbering judge.names) line members.initial.items judge.first → members.held.items ≡ []
+      → IsTable judge.names → AreExact (tests members)
+      → KeepsEvents (tests members) [] (kept_by judge.checker) → judge.counts.votes.entries ≡ []
+      → IsStarted tests line judge
+  started line judge members is says none table exact keeps no_votes = (
+    subst (λ (m : Memberships ℕ ℕ). SaysStart (numbering judge.names) line m.initial.items judge.first) (sym is) says,
     record {
-      exact = subst (λ (m : Memberships ℕ ℕ). AreExact (tests m)) (sym is) exact;
       trace = [];
-      is_trace = refl;
-      keeps = subst (λ (m : Memberships ℕ ℕ). KeepsEvents (tests m) [] (kept_by judge.checker)) (sym is) keeps;
+      is_trace = (ap (λ (m : Memberships ℕ ℕ). m.held.items) is ∙ none, fills_none []);
+      keeps = record {
+        exact = subst (λ (m : Memberships ℕ ℕ). AreExact (tests m)) (sym is) exact;
+        table = table;
+        keeps = subst (λ (m : Memberships ℕ ℕ). KeepsEvents (tests m) [] (kept_by judge.checker)) (sym is) keeps;
+        votes = no_votes_in judge.counts.votes.entries [] no_votes;
+      };
     },
   )
 
   -- an empty line is taken by doing nothing
   pub takes_empty : (line : List ℕ) (judge : Judge) → line ≡ [] → Takes tests line judge judge
   takes_empty line judge is = (
-    (refl, refl),
+    (refl, refl, λ a n is. is),
     λ taken has. record {
-      exact = has.exact;
       trace = has.trace;
-      is_trace = (has.trace, has.is_trace, inl (is, refl));
+      is_trace = (held_by tests judge, has.trace, has.is_trace, (has.trace, inl (is, refl, refl), fills_none has.trace));
       keeps = has.keeps;
     },
   )
 
-  -- a line is taken by taking the event that it says
-  pub takes_event : (line : List ℕ) (old new : Judge) (d : Data) (e : TraceEvent ℕ ℕ ℕ) → read line ≡ Some d
-      → Says old.first d e → TakesEvent tests e old new → Takes tests line old new
-  takes_event line old new d e reads says taken_event = (
-    taken_event.0,
+  -- ---- one step after the other
+
+  pub goes_on : (old mid new : Judge) → GoesOn tests old mid → GoesOn tests mid new → GoesOn tests old new
+  goes_on old mid new one two =
+      (two.0 ∙ one.0, two.1 ∙ one.1, λ a n is. two.2 a n (one.2 a n is))
+
+  goes_still : (judge : Judge) → GoesOn tests judge judge
+  goes_still judge = (refl, refl, λ a n is. is)
+
+  pub fills_nothing : (judge : Judge) → Fills tests judge judge
+  fills_nothing judge = (goes_still judge, λ es keeps. (es, fills_none es, refl, keeps))
+
+  pub fills_both : (old mid new : Judge) → Fills tests old mid → Fills tests mid new → Fills tests old new
+  fills_both old mid new one two = (
+    goes_on old mid new one.0 two.0,
+    λ es keeps.
+        let first = one.1 es keeps in
+        let next = two.1 first.0 first.3 in
+        (next.0, fills_more es first.0 next.0 first.1 next.1, next.2 ∙ first.2, next.3),
+  )
+
+  pub fills_stays : (old mid new : Judge) → Fills tests old mid → Stays tests mid new → Fills tests old new
+  fills_stays old mid new one two = (
+    goes_on old mid new one.0 two.0,
+    λ es keeps.
+        let first = one.1 es keeps in
+        let next = two.1 first.0 first.3 in (
+          next.0,
+          subst (λ (l : List (TraceEvent ℕ ℕ ℕ)). FillsIn es l) (sym next.1) first.1,
+          next.2 ∙ first.2,
+          next.3,
+        ),
+  )
+
+  -- the trace of lines stays so for a judge that goes on
+  trace_on : (old new : Judge) (taken : List (List ℕ)) (held : List Held) (es : List (TraceEvent ℕ ℕ ℕ))
+      → GoesOn tests old new → IsTraceOf (numbering old.names) old.first taken held es
+      → IsTraceOf (numbering new.names) new.first taken held es
+  trace_on old new taken held es goes is =
+      subst (λ (n : ℕ). IsTraceOf (numbering new.names) n taken held es) (sym goes.1)
+      (trace_more (numbering old.names) (numbering new.names) goes.2 old.first taken held es is)
+
+  -- a line is refused, once events are filled in
+  pub refuses : (old new : Judge) → Fills tests old new → Refuses tests old new
+  refuses old new fills = (
+    fills.0,
     λ taken has.
-        let next = taken_event.1 has.exact has.trace has.keeps in
-        let same : tests (configs_of old.checker) ≡ tests (configs_of new.checker) = ap tests (sym taken_event.0.0) in
+        let next = fills.1 has.trace has.keeps in
         record {
-          exact = subst (λ (k : Tests ℕ ℕ ℕ (Option ℕ)). AreExact k) same has.exact;
           trace = next.0;
-          is_trace = subst (λ (n : ℕ). IsTraceOf n (line ∷ taken) next.0) (sym taken_event.0.1)
-              (has.trace, has.is_trace, inr (d, e, reads, says, next.1));
-          keeps = subst (λ (k : Tests ℕ ℕ ℕ (Option ℕ)). KeepsEvents k next.0 (kept_by new.checker)) same next.2;
+          is_trace = rw next.2 (trace_on old new taken (held_by tests old) next.0 fills.0
+              (trace_fills (numbering old.names) old.first taken (held_by tests old) has.trace next.0 has.is_trace next.1));
+          keeps = next.3;
         },
   )
 
-  -- what is left of a text, after a judge has taken some of its lines
-  abbrev pub HasPassed : Option (List ℕ) → Judge → Option (List ℕ) → Judge → Type 0
-  HasPassed None old rest now = ⊤
-  HasPassed (Some text) old None now = ⊥
-  HasPassed (Some text) old (Some rest) now =
-      GoesOn tests old now
-      × ((taken : List (List ℕ)) → HasTaken tests taken old
-      → (taken_now : List (List ℕ)) × HasTaken tests taken_now now
-      × (and_lines taken (lines text) ≡ and_lines taken_now (lines rest)))
+  pub stays_still : (judge : Judge) → Stays tests judge judge
+  stays_still judge = (goes_still judge, λ es keeps. (es, refl, refl, keeps))
 
-  pub passed_none : (rest : Option (List ℕ)) (judge : Judge) → HasPassed rest judge rest judge
-  passed_none None judge = tt
-  passed_none (Some text) judge = ((refl, refl), λ taken has. (taken, has, refl))
+  takes_event : (line : List ℕ) (old mid new : Judge) (d : Data) (e : TraceEvent ℕ ℕ ℕ) (m : Option Held)
+      → Fills tests old mid → read line ≡ Some d → Says (numbering mid.names) mid.first d e
+      → SaysMembership (numbering mid.names) d e m → TakesEvent tests e m mid new → Takes tests line old new
+  takes_event line old mid new d e m fills reads says_e says_m takes = (
+    goes_on old mid new fills.0 takes.0,
+    λ taken has.
+        let before = fills.1 has.trace has.keeps in
+        let next = takes.1 before.0 before.3 in
+        let so_far : IsTraceOf (numbering mid.names) mid.first taken (held_by tests mid) before.0 =
+        rw before.2 (trace_on old mid taken (held_by tests old) before.0 fills.0
+        (trace_fills (numbering old.names) old.first taken (held_by tests old) has.trace before.0 has.is_trace before.1)) in
+        let added : AddsLine (numbering mid.names) mid.first line (held_by tests mid) before.0 (held_by tests new) next.0 =
+        inr (d, e, m, reads, says_e, says_m, next.2, next.1) in
+        record {
+          trace = next.0;
+          is_trace = trace_on mid new (line ∷ taken) (held_by tests new) next.0 takes.0
+              (held_by tests mid, before.0, so_far, (next.0, added, fills_none next.0));
+          keeps = next.3;
+        },
+  )
 
-  pub passed_more : (text rest next : Option (List ℕ)) (old now new : Judge) (line : List ℕ) (is_last : Bool)
-      → is_last ≡ false → HasPassed text old rest now → TakesLine rest line is_last next → Takes tests line now new
-      → HasPassed text old next new
-  passed_more None rest next old now new line is_last not_last passed reads takes = tt
-  passed_more (Some text) None next old now new line is_last not_last passed reads takes = absurd passed
-  passed_more (Some text) (Some rest) None old now new line is_last not_last passed reads takes = absurd reads
-  passed_more (Some text) (Some rest) (Some next) old now new line is_last not_last passed reads takes =
-      let cut : lines rest ≡ line ∷ lines next =
-      subst (λ (b : Bool). TakesLine (Some rest) line b (Some next)) not_last reads in (
-        (takes.0.0 ∙ passed.0.0, takes.0.1 ∙ passed.0.1),
-        λ taken has.
-            let so_far = passed.1 taken has in (
-              line ∷ so_far.0,
-              takes.1 so_far.0 so_far.1,
-              so_far.2 ∙ ap (and_lines so_far.0) cut,
+  -- a line is taken by taking the event that it says, once events are filled in
+  pub takes_line : (line : List ℕ) (old mid new : Judge) (d : Data) → Fills tests old mid → read line ≡ Some d
+      → TakesSaid tests d mid new → Takes tests line old new
+  takes_line line old mid new d fills reads said =
+      takes_event line old mid new d said.0 said.1.0 fills reads said.1.1 said.1.2 said.1.3
+
+  -- ---- events that the checker is asked for
+
+  -- what a checker keeps by memberships, a judge keeps that has these
+  pub keeps_on : (old new : Judge) (es : List (TraceEvent ℕ ℕ ℕ)) → configs_of new.checker ≡ configs_of old.checker
+      → IsTable new.names → AreExact (tests (configs_of old.checker))
+      → KeepsEvents (tests (configs_of old.checker)) es (kept_by new.checker)
+      → AreVotesIn new.counts.votes.entries es → KeepsTrace tests new es
+  keeps_on old new es same table exact keeps votes = record {
+    exact = subst (λ (m : Memberships ℕ ℕ). AreExact (tests m)) (sym same) exact;
+    table = table;
+    keeps = subst (λ (m : Memberships ℕ ℕ). KeepsEvents (tests m) es (kept_by new.checker)) (sym same) keeps;
+    votes = votes;
+  }
+
+  -- a judge that knows the same memberships, and keeps the events of another trace
+  pub keeps_more : (P : List (TraceEvent ℕ ℕ ℕ) → List (TraceEvent ℕ ℕ ℕ) → Type 0) (old new : Judge)
+      → configs_of new.checker ≡ configs_of old.checker → new.first ≡ old.first → new.names ≡ old.names
+      → ((es : List (TraceEvent ℕ ℕ ℕ)) → KeepsTrace tests old es
+      → (after : List (TraceEvent ℕ ℕ ℕ)) × P es after
+      × KeepsEvents (tests (configs_of old.checker)) after (kept_by new.checker)
+      × AreVotesIn new.counts.votes.entries after)
+      → KeepsMore tests P None old new
+  keeps_more P old new same first names more = (
+    (ap (λ (m : Memberships ℕ ℕ). m.initial) same, first, rw names (λ a n is. is)),
+    λ es keeps.
+        let next = more es keeps in (
+          next.0,
+          next.1,
+          ap (λ (m : Memberships ℕ ℕ). m.held.items) same,
+          keeps_on old new next.0 same (rw names keeps.table) keeps.exact next.2 next.3,
+        ),
+  )
+
+  -- ---- memberships that become known
+
+  -- what a judge keeps, it keeps by other memberships
+  keeps_also : (old new : Judge) (es : List (TraceEvent ℕ ℕ ℕ))
+      → KeepsAlso (tests (configs_of old.checker)) (tests (configs_of new.checker)) (kept_by old.checker) (kept_by new.checker)
+      → new.counts ≡ old.counts → new.names ≡ old.names → AreExact (tests (configs_of new.checker)) → KeepsTrace tests old es
+      → KeepsTrace tests new es
+  keeps_also old new es also same names exact keeps = record {
+    exact = exact;
+    table = rw names keeps.table;
+    keeps = also keeps.exact es keeps.keeps;
+    votes = subst (λ (c : Counts). AreVotesIn c.votes.entries es) (sym same) keeps.votes;
+  }
+
+  -- a judge learns a membership before it takes the event whose entry holds it
+  pub takes_new : (old mid new : Judge) (e : TraceEvent ℕ ℕ ℕ) (m : Held) → GoesOn tests old mid
+      → held_by tests mid ≡ held_by tests old ++ m ∷ []
+      → KeepsAlso (tests (configs_of old.checker)) (tests (configs_of mid.checker)) (kept_by old.checker) (kept_by mid.checker)
+      → mid.counts ≡ old.counts → mid.names ≡ old.names → AreExact (tests (configs_of mid.checker))
+      → TakesEvent tests e None mid new → TakesEvent tests e (Some m) old new
+  takes_new old mid new e m goes learned also same names exact takes = (
+    goes_on old mid new goes takes.0,
+    λ es keeps.
+        let next = takes.1 es (keeps_also old mid es also same names exact keeps) in
+        (next.0, next.1, inl (next.2 ∙ learned), next.3),
+  )
+
+  -- a judge learns a membership, refuses the event whose entry holds it, and forgets the membership
+  pub stays_new : (same : ℕ → ℕ → Bool) (old mid refused new : Judge) (m : Held) → GoesOn tests old mid
+      → held_by tests mid ≡ held_by tests old ++ m ∷ []
+      → KeepsAlso (tests (configs_of old.checker)) (tests (configs_of mid.checker)) (kept_by old.checker) (kept_by mid.checker)
+      → OfAll (tests (configs_of old.checker)) (kept_by old.checker) (λ es. IsUnused same m.0 es)
+      → mid.counts ≡ old.counts → mid.names ≡ old.names → AreExact (tests (configs_of mid.checker)) → Stays tests mid refused
+      → GoesOn tests refused new
+      → KeepsAlso (tests (configs_of refused.checker)) (tests (configs_of new.checker)) (kept_by refused.checker)
+      (kept_by new.checker)
+      → ((before : List Held) (n : Held) → held_by tests refused ≡ before ++ n ∷ []
+      → OfAll (tests (configs_of refused.checker)) (kept_by refused.checker) (λ es. IsUnused same n.0 es → held_by tests new ≡ before))
+      → new.counts ≡ refused.counts → new.names ≡ refused.names → AreExact (tests (configs_of new.checker))
+      → Stays tests old new
+  stays_new same old mid refused new m goes learned also unused same_mid names_mid exact stays back forgets forgotten same_new
+      names_new exact_new = (
+        goes_on old refused new (goes_on old mid refused goes stays.0) back,
+        λ es keeps.
+            let next = stays.1 es (keeps_also old mid es also same_mid names_mid exact keeps) in
+            let still : IsUnused same m.0 next.0 = rw next.1 (unused keeps.exact es keeps.keeps) in (
+              next.0,
+              next.1,
+              forgotten (held_by tests old) m (next.2 ∙ learned) next.3.exact next.0 next.3.keeps still,
+              keeps_also refused new next.0 forgets same_new names_new exact_new next.3,
             ),
       )
 
-  pub passed_last : (text rest next : Option (List ℕ)) (old now new : Judge) (line : List ℕ) (is_last : Bool)
-      → is_last ≡ true → HasPassed text old rest now → TakesLine rest line is_last next → Takes tests line now new
-      → TakesAll tests text old new
-  passed_last None rest next old now new line is_last last passed reads takes = tt
-  passed_last (Some text) None next old now new line is_last last passed reads takes = absurd passed
-  passed_last (Some text) (Some rest) None old now new line is_last last passed reads takes = absurd reads
-  passed_last (Some text) (Some rest) (Some next) old now new line is_last last passed reads takes =
-      let cut : lines rest ≡ line ∷ [] =
-      (subst (λ (b : Bool). TakesLine (Some rest) line b (Some next)) last reads).0 in (
-        (takes.0.0 ∙ passed.0.0, takes.0.1 ∙ passed.0.1),
-        λ taken has.
-            let so_far = passed.1 taken has in
-            let all : and_lines taken (lines text) ≡ line ∷ so_far.0 = so_far.2 ∙ ap (and_lines so_far.0) cut in
-            subst (λ (ls : List (List ℕ)). HasTaken tests ls new) (sym all) (takes.1 so_far.0 so_far.1),
-      )
+  -- an entry holds a membership that is known by its content already
+  pub takes_known : (old new : Judge) (e : TraceEvent ℕ ℕ ℕ) (m : Held) → IsAmong m (held_by tests old)
+      → TakesEvent tests e None old new → TakesEvent tests e (Some m) old new
+  takes_known old new e m is takes = (
+    takes.0,
+    λ es keeps. let next = takes.1 es keeps in (next.0, next.1, inr (is, next.2), next.3),
+  )
 
-  -- a judge that has taken all lines after the first one
-  is_safe : ((m : Memberships ℕ ℕ) (t u : ℕ) → (tests m).rank t ≡ (tests m).rank u → t ≡ u)
-      → TracesAreExecutions ℕ ℕ ℕ (Option ℕ) → (text line : List ℕ) (later : List (List ℕ)) (old new : Judge)
-      → lines text ≡ line ∷ later → SaysStart line (configs_of old.checker) old.first → GoesOn tests old new
-      → HasTaken tests (and_lines [] later) new → SafeRun tests text
-  is_safe ranks law text line later old new is says goes has =
-      let starts : SaysStart line (configs_of new.checker) new.first =
-      subst (λ (m : Memberships ℕ ℕ). SaysStart line m new.first) (sym goes.0)
-      (subst (λ (n : ℕ). SaysStart line (configs_of old.checker) n) (sym goes.1) says) in
-      record {
-        first_line = line;
-        later = later;
-        lines_are = is;
-        members = configs_of new.checker;
-        first = new.first;
-        starts = starts;
-        trace = has.trace;
-        is_trace = has.is_trace;
-        allowed = has.keeps.seen.allowed;
-        safe = law (tests (configs_of new.checker)) has.exact has.trace
-            (λ t u in_t in_u e. ranks (configs_of new.checker) t u e) has.keeps.seen.allowed;
-      }
+  -- a judge does not learn a membership
+  pub stays_unlearned : (old new : Judge) → GoesOn tests old new → held_by tests new ≡ held_by tests old
+      → KeepsAlso (tests (configs_of old.checker)) (tests (configs_of new.checker)) (kept_by old.checker) (kept_by new.checker)
+      → new.counts ≡ old.counts → new.names ≡ old.names → AreExact (tests (configs_of new.checker)) → Stays tests old new
+  stays_unlearned old new goes held also same names exact =
+      (goes, λ es keeps. (es, refl, held, keeps_also old new es also same names exact keeps))
 
-  -- the first line is the only one
-  pub safe_alone : ((m : Memberships ℕ ℕ) (t u : ℕ) → (tests m).rank t ≡ (tests m).rank u → t ≡ u)
-      → TracesAreExecutions ℕ ℕ ℕ (Option ℕ) → (text next : Option (List ℕ)) (line : List ℕ) (is_last : Bool)
-      (judge : Judge) → is_last ≡ true → TakesLine text line is_last next → IsStarted tests line judge
-      → IsSafeRun tests text
-  safe_alone ranks law None next line is_last judge last reads start = tt
-  safe_alone ranks law (Some text) None line is_last judge last reads start = absurd reads
-  safe_alone ranks law (Some text) (Some next) line is_last judge last reads start =
-      let cut : lines text ≡ line ∷ [] =
-      (subst (λ (b : Bool). TakesLine (Some text) line b (Some next)) last reads).0 in
-      is_safe ranks law text line [] judge judge cut start.0 (refl, refl) start.1
+  -- names get numbers
+  pub stays_named : (old : Judge) (names : Names) → Learns old.names names → Stays tests old (record old { names = names })
+  stays_named old names learns = (
+    (refl, refl, learns.0),
+    λ es keeps. (
+      es,
+      refl,
+      refl,
+      record { exact = keeps.exact; table = learns.1 keeps.table; keeps = keeps.keeps; votes = keeps.votes },
+    ),
+  )
 
-  -- all lines after the first one are taken
-  pub safe_all : ((m : Memberships ℕ ℕ) (t u : ℕ) → (tests m).rank t ≡ (tests m).rank u → t ≡ u)
-      → TracesAreExecutions ℕ ℕ ℕ (Option ℕ) → (text next : Option (List ℕ)) (line : List ℕ) (is_last : Bool)
-      (old new : Judge) → is_last ≡ false → TakesLine text line is_last next → IsStarted tests line old
-      → TakesAll tests next old new → IsSafeRun tests text
-  safe_all ranks law None next line is_last old new not_last reads start takes = tt
-  safe_all ranks law (Some text) None line is_last old new not_last reads start takes = absurd reads
-  safe_all ranks law (Some text) (Some next) line is_last old new not_last reads start takes =
-      let cut : lines text ≡ line ∷ lines next =
-      subst (λ (b : Bool). TakesLine (Some text) line b (Some next)) not_last reads in
-      is_safe ranks law text line (lines next) old new cut start.0 takes.0 (takes.1 [] start.1)
-
-  -- a run is safe if it is so as it is read
-  pub kept_safe : (text read_text : Option (List ℕ)) → Keeps text read_text → IsSafeRun tests read_text
-      → IsSafeRun tests text
-  kept_safe None read_text kept safe = tt
-  kept_safe (Some text) None kept safe = absurd kept
-  kept_safe (Some text) (Some other) kept safe = subst (λ (t : List ℕ). SafeRun tests t) kept safe
+  -- events are filled in after names have got numbers
+  pub fills_named : (old : Judge) (names : Names) (new : Judge) → Learns old.names names
+      → Fills tests (record old { names = names }) new → Fills tests old new
+  fills_named old names new learns fills =
+      let mid : Judge = record old { names = names } in
+      fills_both old mid new (fills_stays old old mid (fills_nothing old) (stays_named old names learns)) fills

@@ -1,12 +1,25 @@
-use Rattle.std.proofs.lemmas.Result.{on_ok_weaker}
+use Rattle.std.proofs.lemmas.Result.{IfErr-weaker, on_ok_weaker}
 use Rattle.serde_json.specs.View.{view}
-use Rattle.raft_safety.specs.Checker.{event_of as trace_event}
 use Rattle.raft_trace.specs.Numbers.{number_tests}
-use Rattle.raft_trace.proofs.lemmas.RunLemmas.{takes_event}
+use Rattle.raft_trace.specs.Run.{IsBroken, Refuses, Stays}
+use Rattle.raft_trace.proofs.lemmas.RunLemmas.{fills_named, fills_stays, refuses, takes_line}
 use Rattle.raft_trace.proofs.judge.Judge.take.Goals as goal
 
-pub returns : goal.returns
-returns c = on_ok_weaker c.take_event.result
-    (takes_event number_tests c.args.line.now c.args.self.now c.take_event.new.self (view c.in-Some.value)
-    (trace_event c.in_ok-event.event) (rw c.in-Some.is at c.in_ok-value.ensures) c.in_ok-event.ensures)
-    c.take_event.ensures
+pub returns-clause-taken : goal.returns-clause-taken
+returns-clause-taken c =
+    let old = c.args.self.now in
+    let fills = fills_named number_tests old c.learn.new.self c.fill_in.new.self c.in_ok-learn.ensures c.in_ok-fill_in.ensures in
+    on_ok_weaker c.take_value.result
+    (takes_line number_tests c.args.line.now old c.fill_in.new.self c.take_value.new.self (view c.in-Some.value) fills
+    (rw c.in-Some.is at c.in_ok-value.ensures)) c.take_value.ensures.taken
+
+pub returns-clause-broken : goal.returns-clause-broken
+returns-clause-broken c =
+    let old = c.args.self.now in
+    let new = c.take_value.new.self in
+    let fills = fills_named number_tests old c.learn.new.self c.fill_in.new.self c.in_ok-learn.ensures c.in_ok-fill_in.ensures in
+    IfErr-weaker c.take_value.result (λ fault. IsBroken fault → Stays number_tests c.fill_in.new.self new)
+    (λ fault. IsBroken fault → Refuses number_tests old new)
+    (λ fault stays broken.
+    refuses number_tests old new (fills_stays number_tests old c.fill_in.new.self new fills (stays broken)))
+    c.take_value.ensures.broken
