@@ -209,9 +209,21 @@ judge_cluster() {
     judge "a recorded cluster, $*" "$status" "$begin" "$end" "$record"
 }
 
+# Records a run of the cluster with a file for each server, and judges the files side by side.
+judge_servers() {
+    local folder answer is=wrong
+    folder=$(mktemp -d)
+    cluster chart=0 "traces=$folder" "$@" > /dev/null 2>&1
+    answer=$(trace "$folder"/*.jsonl) && [[ $answer == "safe: "* ]] && is=right
+    count "a file for each server, $*" $is "answered '$answer'"
+    rm -rf "$folder"
+}
+
 # Recorded runs of the cluster. The checker of a run with a fault refuses its last event, so the record ends there.
 recorded_runs() {
-    judge_cluster 0 "" seed=16 events=150
+    judge_cluster 0 "" seed=1 events=1500
+    judge_cluster 0 "" seed=2349 events=10000
+    judge_servers seed=1 events=1500
     judge_cluster 1 "the last committed entry is of an earlier term" seed=44 fault=CommitEarlierTerm
     judge_cluster 1 "the candidate's log is not as up to date as the server's" seed=85 fault=IgnoreLastLog
     judge_cluster 1 "the server has reached or passed the term already" seed=18 fault=VoteTwice
@@ -221,6 +233,10 @@ recorded_runs() {
     judge_cluster 1 "the server has not kept the leader's entries since the term" seed=44 fault=AcknowledgeUnwritten
     judge_cluster 1 "the server has not kept the leader's entries since the term" seed=90 fault=AcknowledgeUninstalled
     judge_cluster 1 "the server has reached or passed the term already" seed=79 fault=FollowPassedLeader
+    judge_cluster 1 "the leader has not committed an own entry and the config in effect" seed=61 fault=ChangeEarly
+    judge_cluster 1 "quorums of the new config and the config in effect are not known to intersect" seed=62 \
+        fault=SkipJointConfig
+    judge_cluster 1 "no quorum has acknowledged the entries" seed=112 fault=CountOldMembers
 }
 
 # The options of the cluster: refused ones, and the help.
@@ -284,12 +300,13 @@ run_default_leader_ids() {
     sed -i 's/raft_base::leader_id_std::LeaderId<u64>;/raft_base::LeaderId<u64>;/
         s/raft_base::leader_id_std::CommittedLeaderId;/raft_base::CommittedLeaderId<u64>;/' \
         "$copy/crates/cluster/src/types.rt"
-    said=$(cd "$copy/crates/cluster" && rt try --seconds 600 -- chart=0 seeds=50 events=1500 2>&1)
+    said=$(cd "$copy/crates/cluster" && rt try --seconds 600 -- chart=0 seeds=50 events=1500 "trace=$record" 2>&1)
     echo "seeds over the default leader ids:"
     grep -E '^([0-9,]+ (elections?|of)|longest time)' <<< "$said" | sed 's/^/    /'
     grep -q '^50 of 50 clusters safe and converged' <<< "$said" \
         && [ "$(grep -c '_std::' "$copy/crates/cluster/src/types.rt")" = 0 ] && is=right
     count "the default leader ids" $is "$(tail -n 3 <<< "$said")"
+    judge "the default leader ids, the first cluster recorded" 0 "safe: " "" "$record"
     rm -rf "$copy"
 }
 
