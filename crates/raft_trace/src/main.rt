@@ -1,6 +1,7 @@
 //! Judges a recorded run of a Raft cluster: one event a line, as JSON.
 #![tactic(auto)]
 
+mod chart;
 mod counts;
 mod event;
 mod fault;
