@@ -38,6 +38,8 @@ const MORE: &str = "There are more than seven servers, and the first seven are d
 /// The chart of a run.
 #[derive(Drop)]
 pub struct Chart {
+    /// Whether the chart is wanted. If not, it stays empty.
+    is_drawn: bool,
     /// The allocator.
     alloc: Global,
     /// The index of the first entry.
@@ -69,9 +71,11 @@ pub struct Chart {
 }
 
 impl Chart {
-    /// Returns a chart with no row, of a cluster whose first entry has this index.
-    pub fn new(alloc: Global, first: u64) -> Chart {
+    /// Returns a chart with no row, of a cluster whose first entry has this index. If the chart is not
+    /// wanted, it stays empty.
+    pub fn new(alloc: Global, first: u64, is_drawn: bool) -> Chart {
         Chart {
+            is_drawn,
             alloc,
             first,
             servers: Vec::new(alloc),
@@ -112,6 +116,9 @@ impl Chart {
     /// Begins with a line, whose row has this number. The events that follow are the one that the line
     /// says, and those that it needs.
     pub fn begin(&mut self, number: u64, line: &Value) -> Result<(), AllocError> {
+        if !self.is_drawn {
+            return Ok(());
+        }
         self.number = number;
         self.is_snapshot = is_named(line, "appended") && line.get("entries").is_none();
         self.name.clear();
@@ -127,6 +134,9 @@ impl Chart {
 
     /// Takes note of an event, and draws a row if it is of note.
     pub fn note(&mut self, event: &Act) -> Result<(), AllocError> {
+        if !self.is_drawn {
+            return Ok(());
+        }
         let place = self.place_of(actor(event))?;
         match event {
             Event::Campaigned { term, .. } => self.reach(place, *term, 'C'),
@@ -149,6 +159,9 @@ impl Chart {
 
     /// Draws a row for a line that is refused.
     pub fn refuse(&mut self) -> Result<(), AllocError> {
+        if !self.is_drawn {
+            return Ok(());
+        }
         self.words.clear();
         self.words.push_str("this line is refused")?;
         self.draw()
@@ -156,6 +169,9 @@ impl Chart {
 
     /// Writes the legend and the rows.
     pub fn push_to(&self, answer: &mut String) -> Result<(), AllocError> {
+        if !self.is_drawn {
+            return Ok(());
+        }
         answer.push_str(LEGEND)?;
         if self.has_more {
             answer.push_str(MORE)?;
