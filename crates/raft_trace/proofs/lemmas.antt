@@ -1,4 +1,5 @@
 pub mod InputLemmas
 pub mod FieldLemmas
+pub mod NameLemmas
 pub mod RunLemmas
 pub mod VoteLemmas

@@ -4,10 +4,7 @@ use Rattle.std.specs.Global.{Vec}
 use Rattle.serde_json.specs.Data.{Data, Items, no_items, item}
 use Rattle.serde_json.specs.Find.{as_array, as_number, as_str, as_u64, at, get}
 use Rattle.raft_safety.specs.Log.{Entry}
-
--- a value that is a number
-abbrev pub number_of : Data → Option ℕ
-number_of d = option_and_then as_u64 (as_number d)
+use Rattle.raft_trace.specs.Names.{HasNumber, Numbering}
 
 -- a field that is a number
 abbrev pub number_in : List ℕ → Data → Option ℕ
@@ -24,6 +21,10 @@ text_in name d = option_and_then as_str (get name d)
 -- a field that is a list
 abbrev pub list_in : List ℕ → Data → Option Items
 list_in name d = option_and_then as_array (get name d)
+
+-- a field is the name that has this number
+abbrev pub IsId : Numbering → List ℕ → ℕ → Data → Type 0
+IsId number_of name n d = (v : Data) × (get name d ≡ Some v) × HasNumber number_of v n
 
 -- the name of the event
 abbrev pub IsNamed : List ℕ → Data → Type 0
@@ -46,23 +47,21 @@ SayEach P no_items (x ∷ xs) = ⊥
 SayEach P (item d ds) [] = ⊥
 SayEach P (item d ds) (x ∷ xs) = P d x × SayEach P ds xs
 
--- a number
-abbrev pub IsNumber : Data → ℕ → Type 0
-IsNumber d n = number_of d ≡ Some n
+module _ (number_of : Numbering) where
+  -- a list of voters
+  abbrev pub IsConfig : Data → Vec ℕ → Type 0
+  IsConfig d v = (ds : Items) × (as_array d ≡ Some ds) × SayEach (HasNumber number_of) ds v.items
 
--- a list of voters
-abbrev pub IsConfig : Data → Vec ℕ → Type 0
-IsConfig d v = (ds : Items) × (as_array d ≡ Some ds) × SayEach IsNumber ds v.items
+  -- an entry, which is a list of its term and its content
+  abbrev pub IsEntry : Data → Entry ℕ ℕ → Type 0
+  IsEntry d e =
+      (number_at 0 d ≡ Some e.term) × ((v : Data) × (at 1 d ≡ Some v) × HasNumber number_of v e.content)
 
--- an entry, which is a list of its term and its content
-abbrev pub IsEntry : Data → Entry ℕ ℕ → Type 0
-IsEntry d e = (number_at 0 d ≡ Some e.term) × (number_at 1 d ≡ Some e.content)
+  -- the configs of a line
+  abbrev pub HasConfigs : Data → List (Vec ℕ) → Type 0
+  HasConfigs d configs =
+      (ds : Items) × (list_in (codes "voters") d ≡ Some ds) × SayEach IsConfig ds configs
 
--- the configs of a line
-abbrev pub HasConfigs : Data → List (Vec ℕ) → Type 0
-HasConfigs d configs =
-    (ds : Items) × (list_in (codes "voters") d ≡ Some ds) × SayEach IsConfig ds configs
-
--- the entries of a line
-abbrev pub HasEntries : Data → List (Entry ℕ ℕ) → Type 0
-HasEntries d es = (ds : Items) × (list_in (codes "entries") d ≡ Some ds) × SayEach IsEntry ds es
+  -- the entries of a line
+  abbrev pub HasEntries : Data → List (Entry ℕ ℕ) → Type 0
+  HasEntries d es = (ds : Items) × (list_in (codes "entries") d ≡ Some ds) × SayEach IsEntry ds es

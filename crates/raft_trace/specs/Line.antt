@@ -14,69 +14,72 @@ use Rattle.raft_safety.specs.Trace.{
   Committed,
   Applied,
 }
-use Rattle.raft_trace.specs.Fields.{HasEntries, IsLen, IsNamed, number_in}
-
--- a line says which entries a server takes: it keeps those up to the index `prev`, and these come then. A
--- line without entries is of a snapshot, which has all entries up to its index
-abbrev pub SaysEntries : ℕ → Data → ℕ → List (Entry ℕ ℕ) → Type 0
-SaysEntries first d n sent =
-    (IsLen (codes "prev") first n d × HasEntries d sent)
-    ⊎ ((get (codes "entries") d ≡ None) × (n ≡ 0) × IsLen (codes "index") first (length sent) d)
-
--- a line says an event, where the first entry has this index. It does not say by which config a leader
--- counts, nor which leader has committed what a server applies, nor what the entries of a snapshot are
-abbrev pub Says : ℕ → Data → TraceEvent ℕ ℕ ℕ → Type 0
-Says first d (Campaigned s t) =
-    IsNamed (codes "campaigned") d
-    × (number_in (codes "server") d ≡ Some s)
-    × (number_in (codes "term") d ≡ Some t)
-Says first d (Granted s t c) =
-    IsNamed (codes "granted") d
-    × (number_in (codes "server") d ≡ Some s)
-    × (number_in (codes "term") d ≡ Some t)
-    × (number_in (codes "candidate") d ≡ Some c)
-Says first d (Appended s t c n sent) =
-    IsNamed (codes "appended") d
-    × (number_in (codes "server") d ≡ Some s)
-    × (number_in (codes "term") d ≡ Some t)
-    × (number_in (codes "leader") d ≡ Some c)
-    × SaysEntries first d n sent
-Says first d (Acked s t c n) =
-    IsNamed (codes "acked") d
-    × (number_in (codes "server") d ≡ Some s)
-    × (number_in (codes "term") d ≡ Some t)
-    × (number_in (codes "leader") d ≡ Some c)
-    × IsLen (codes "index") first n d
-Says first d (Restarted s n) =
-    IsNamed (codes "restarted") d
-    × (number_in (codes "server") d ≡ Some s)
-    × IsLen (codes "index") first n d
-Says first d (Wrote c t e) =
-    IsNamed (codes "wrote") d
-    × (number_in (codes "leader") d ≡ Some c)
-    × (number_in (codes "term") d ≡ Some t)
-    × (e.term ≡ t)
-    × (number_in (codes "content") d ≡ Some e.content)
-Says first d (Committed c t n m) =
-    IsNamed (codes "committed") d
-    × (number_in (codes "leader") d ≡ Some c)
-    × (number_in (codes "term") d ≡ Some t)
-    × IsLen (codes "index") first n d
-Says first d (Applied s t c n) =
-    IsNamed (codes "applied") d
-    × (number_in (codes "server") d ≡ Some s)
-    × IsLen (codes "index") first n d
-
--- what a line says of a server that takes entries, but for the entries: up to the index of this field
-abbrev pub IsTaken : List ℕ → ℕ → Data → ℕ × ℕ × ℕ × ℕ → Type 0
-IsTaken name first d t =
-    IsNamed (codes "appended") d
-    × (number_in (codes "server") d ≡ Some t.0)
-    × (number_in (codes "term") d ≡ Some t.1)
-    × (number_in (codes "leader") d ≡ Some t.2)
-    × IsLen name first t.3 d
+use Rattle.raft_trace.specs.Fields.{HasEntries, IsId, IsLen, IsNamed, number_in}
+use Rattle.raft_trace.specs.Names.{Numbering}
 
 -- a vote of a server for another one
 abbrev pub IsVote : TraceEvent ℕ ℕ ℕ → Type 0
 IsVote (Granted s t c) = Unit {0}
 IsVote e = ⊥
+
+-- names have these numbers
+module _ (number_of : Numbering) where
+  -- a line says which entries a server takes: it keeps those up to the index `prev`, and these come then. A
+  -- line without entries is of a snapshot, which has all entries up to its index
+  abbrev pub SaysEntries : ℕ → Data → ℕ → List (Entry ℕ ℕ) → Type 0
+  SaysEntries first d n sent =
+      (IsLen (codes "prev") first n d × HasEntries number_of d sent)
+      ⊎ ((get (codes "entries") d ≡ None) × (n ≡ 0) × IsLen (codes "index") first (length sent) d)
+
+  -- a line says an event, where the first entry has this index. It does not say by which config a leader
+  -- counts, nor which leader has committed what a server applies, nor what the entries of a snapshot are
+  abbrev pub Says : ℕ → Data → TraceEvent ℕ ℕ ℕ → Type 0
+  Says first d (Campaigned s t) =
+      IsNamed (codes "campaigned") d
+      × IsId number_of (codes "server") s d
+      × (number_in (codes "term") d ≡ Some t)
+  Says first d (Granted s t c) =
+      IsNamed (codes "granted") d
+      × IsId number_of (codes "server") s d
+      × (number_in (codes "term") d ≡ Some t)
+      × IsId number_of (codes "candidate") c d
+  Says first d (Appended s t c n sent) =
+      IsNamed (codes "appended") d
+      × IsId number_of (codes "server") s d
+      × (number_in (codes "term") d ≡ Some t)
+      × IsId number_of (codes "leader") c d
+      × SaysEntries first d n sent
+  Says first d (Acked s t c n) =
+      IsNamed (codes "acked") d
+      × IsId number_of (codes "server") s d
+      × (number_in (codes "term") d ≡ Some t)
+      × IsId number_of (codes "leader") c d
+      × IsLen (codes "index") first n d
+  Says first d (Restarted s n) =
+      IsNamed (codes "restarted") d
+      × IsId number_of (codes "server") s d
+      × IsLen (codes "index") first n d
+  Says first d (Wrote c t e) =
+      IsNamed (codes "wrote") d
+      × IsId number_of (codes "leader") c d
+      × (number_in (codes "term") d ≡ Some t)
+      × (e.term ≡ t)
+      × IsId number_of (codes "content") e.content d
+  Says first d (Committed c t n m) =
+      IsNamed (codes "committed") d
+      × IsId number_of (codes "leader") c d
+      × (number_in (codes "term") d ≡ Some t)
+      × IsLen (codes "index") first n d
+  Says first d (Applied s t c n) =
+      IsNamed (codes "applied") d
+      × IsId number_of (codes "server") s d
+      × IsLen (codes "index") first n d
+
+  -- what a line says of a server that takes entries, but for the entries: up to the index of this field
+  abbrev pub IsTaken : List ℕ → ℕ → Data → ℕ × ℕ × ℕ × ℕ → Type 0
+  IsTaken name first d t =
+      IsNamed (codes "appended") d
+      × IsId number_of (codes "server") t.0 d
+      × (number_in (codes "term") d ≡ Some t.1)
+      × IsId number_of (codes "leader") t.2 d
+      × IsLen name first t.3 d

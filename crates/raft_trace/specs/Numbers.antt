@@ -1,4 +1,4 @@
--- How a run is tested: servers, terms and contents are numbers.
+-- How a run is tested: terms are numbers, and numbers stand for the names of servers and of contents.
 use Rattle.std.specs.Prelude.{◌||◌, ℕ, Option, None, map, nat_eq}
 use Rattle.std.specs.Cmp.Lexicographic.{pointwise}
 use Rattle.std.specs.List.{list_all, list_any}

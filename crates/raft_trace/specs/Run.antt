@@ -12,6 +12,7 @@ use Rattle.raft_safety.specs.declared.memberships.Memberships.{Memberships}
 use Rattle.raft_trace.specs.Fields.{HasConfigs, IsFirst, IsNamed}
 use Rattle.raft_trace.specs.Input.{lines}
 use Rattle.raft_trace.specs.Line.{IsVote, Says}
+use Rattle.raft_trace.specs.Names.{AreApart, Extends, IsTable, Numbering, numbering}
 use Rattle.raft_trace.specs.declared.fault.Fault.{Fault}
 use Rattle.raft_trace.specs.declared.fault.Fault.TheVariants.{Refused}
 use Rattle.raft_trace.specs.Votes.{AreVotesIn}
@@ -22,10 +23,11 @@ abbrev pub Adds : TraceEvent ℕ ℕ ℕ → List (TraceEvent ℕ ℕ ℕ) → L
 Adds e before after = (after ≡ e ∷ before) ⊎ (IsVote e × IsAmong e before × (after ≡ before))
 
 -- a trace has the event more that a line says. An empty line says nothing
-abbrev pub AddsLine : ℕ → List ℕ → List (TraceEvent ℕ ℕ ℕ) → List (TraceEvent ℕ ℕ ℕ) → Type 0
-AddsLine first line before after =
+abbrev pub AddsLine : Numbering → ℕ → List ℕ → List (TraceEvent ℕ ℕ ℕ) → List (TraceEvent ℕ ℕ ℕ) → Type 0
+AddsLine number_of first line before after =
     ((line ≡ []) × (after ≡ before))
-    ⊎ ((d : Data) × (e : TraceEvent ℕ ℕ ℕ) × (read line ≡ Some d) × Says first d e × Adds e before after)
+    ⊎ ((d : Data) × (e : TraceEvent ℕ ℕ ℕ) × (read line ≡ Some d) × Says number_of first d e
+    × Adds e before after)
 
 -- an event that may be filled in, though no line says it: a server takes or acknowledges entries, or a
 -- leader commits them
@@ -42,11 +44,11 @@ FillsIn before after =
 
 -- a trace is what these lines say, in their order, but for votes that it has already, and for events
 -- that are filled in at any place. The latest line and the latest event are first
-abbrev pub IsTraceOf : ℕ → List (List ℕ) → List (TraceEvent ℕ ℕ ℕ) → Type 0
-IsTraceOf first [] es = FillsIn [] es
-IsTraceOf first (line ∷ earlier) es =
-    (before : List (TraceEvent ℕ ℕ ℕ)) × IsTraceOf first earlier before
-    × ((after : List (TraceEvent ℕ ℕ ℕ)) × AddsLine first line before after × FillsIn after es)
+abbrev pub IsTraceOf : Numbering → ℕ → List (List ℕ) → List (TraceEvent ℕ ℕ ℕ) → Type 0
+IsTraceOf number_of first [] es = FillsIn [] es
+IsTraceOf number_of first (line ∷ earlier) es =
+    (before : List (TraceEvent ℕ ℕ ℕ)) × IsTraceOf number_of first earlier before
+    × ((after : List (TraceEvent ℕ ℕ ℕ)) × AddsLine number_of first line before after × FillsIn after es)
 
 -- lines after which others come, the latest first
 abbrev pub and_lines : List (List ℕ) → List (List ℕ) → List (List ℕ)
@@ -54,9 +56,10 @@ and_lines earlier [] = earlier
 and_lines earlier (line ∷ later) = and_lines (line ∷ earlier) later
 
 -- how a line says that the cluster starts: the configs of the voters, and the index of the first entry
-abbrev pub SaysStart : List ℕ → List (Vec ℕ) → ℕ → Type 0
-SaysStart line configs first =
-    (d : Data) × (read line ≡ Some d) × IsNamed (codes "started") d × HasConfigs d configs × IsFirst first d
+abbrev pub SaysStart : Numbering → List ℕ → List (Vec ℕ) → ℕ → Type 0
+SaysStart number_of line configs first =
+    (d : Data) × (read line ≡ Some d) × IsNamed (codes "started") d
+    × HasConfigs number_of d configs × IsFirst first d
 
 -- a line is refused because it breaks a rule
 abbrev pub IsBroken : Fault → Type 0
@@ -64,17 +67,20 @@ IsBroken (Refused (BreaksRule rule)) = Unit {0}
 IsBroken fault = ⊥
 
 module _ (tests : Memberships ℕ ℕ → Tests ℕ ℕ ℕ (Option ℕ)) where
-  -- the lines after the first one are a trace that is allowed, and so it is safe
+  -- the lines after the first one are a trace that is allowed, and so it is safe. The numbers in it stand
+  -- for the names that the lines have
   pub record SafeRun (text : List ℕ) : Type 0 where
     pub first_line : List ℕ
     pub later : List (List ℕ)
     pub lines_are : lines text ≡ first_line ∷ later
     pub members : Memberships ℕ ℕ
     pub first : ℕ
-    pub starts : SaysStart first_line members.initial.items first
+    pub number_of : Numbering
+    pub apart : AreApart number_of
+    pub starts : SaysStart number_of first_line members.initial.items first
     pub no_changes : members.held.items ≡ []
     pub trace : List (TraceEvent ℕ ℕ ℕ)
-    pub is_trace : IsTraceOf first (and_lines [] later) trace
+    pub is_trace : IsTraceOf number_of first (and_lines [] later) trace
     pub allowed : are_allowed (tests members) trace ≡ true
     pub safe : IsSafeTrace (tests members) trace
 
@@ -86,8 +92,9 @@ module _ (tests : Memberships ℕ ℕ → Tests ℕ ℕ ℕ (Option ℕ)) where
   -- a judge has taken these lines, the latest first
   pub record HasTaken (taken : List (List ℕ)) (judge : Judge) : Type 0 where
     pub exact : AreExact (tests (configs_of judge.checker))
+    pub table : IsTable judge.names
     pub trace : List (TraceEvent ℕ ℕ ℕ)
-    pub is_trace : IsTraceOf judge.first taken trace
+    pub is_trace : IsTraceOf (numbering judge.names) judge.first taken trace
     pub no_changes : (configs_of judge.checker).held.items ≡ []
     pub keeps : Keeps (tests (configs_of judge.checker)) trace (kept_by judge.checker)
     pub votes : AreVotesIn judge.counts.votes.entries trace
@@ -95,12 +102,14 @@ module _ (tests : Memberships ℕ ℕ → Tests ℕ ℕ ℕ (Option ℕ)) where
   -- a judge that has taken no line after the first one
   abbrev pub IsStarted : List ℕ → Judge → Type 0
   IsStarted line judge =
-      SaysStart line (configs_of judge.checker).initial.items judge.first × HasTaken [] judge
+      SaysStart (numbering judge.names) line (configs_of judge.checker).initial.items judge.first
+      × HasTaken [] judge
 
-  -- a judge goes on with the same first membership and the same first index
+  -- a judge goes on with the same first membership and the same first index, and names keep their numbers
   abbrev pub GoesOn : Judge → Judge → Type 0
   GoesOn old new =
       ((configs_of new.checker).initial ≡ (configs_of old.checker).initial) × (new.first ≡ old.first)
+      × Extends (numbering old.names) (numbering new.names)
 
   -- a judge takes one line more
   abbrev pub Takes : List ℕ → Judge → Judge → Type 0
@@ -118,6 +127,7 @@ module _ (tests : Memberships ℕ ℕ → Tests ℕ ℕ ℕ (Option ℕ)) where
   KeepsMore P old new =
       (configs_of new.checker ≡ configs_of old.checker)
       × (new.first ≡ old.first)
+      × (new.names ≡ old.names)
       × (AreExact (tests (configs_of old.checker)) → (es : List (TraceEvent ℕ ℕ ℕ))
       → Keeps (tests (configs_of old.checker)) es (kept_by old.checker)
       → AreVotesIn old.counts.votes.entries es

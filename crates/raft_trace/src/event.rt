@@ -4,8 +4,10 @@ ghost use Rattle.raft_safety.specs.Checker.{event_of as trace_event};
 ghost use Rattle.serde_json.specs.Find.{get};
 ghost use Rattle.serde_json.specs.View.{view};
 ghost use Rattle.raft_trace.specs.Line.{IsTaken, Says};
+ghost use Rattle.raft_trace.specs.Names.{numbering};
 
-use crate::field::{entries, event_name, is_named, len, number};
+use crate::field::{entries, event_name, id, is_named, len, number};
+use crate::names::Names;
 use raft_safety::entry::Entry;
 use raft_safety::event::Event;
 use serde_json::Value;
@@ -18,62 +20,72 @@ pub type Act = Event<u64, u64, u64>;
 /// greatest term of which a leader has committed entries, with this leader.
 pub fn event_of(
     alloc: Global,
+    names: &Names,
     value: &Value,
     first: u64,
     committed_by: Option<(u64, u64)>,
 ) -> Result<Option<Act>, AllocError>
-    ensures { IfOk result (λ o. IfSome o (λ e. Says first (view value.now) (trace_event e))) }
+    ensures { IfOk result (λ o. IfSome o (λ e.
+        Says (numbering names.now) first (view value.now) (trace_event e))) }
 {
     if is_named(value, "appended") {
-        return appended(alloc, value, first);
+        return appended(alloc, names, value, first);
     }
     Ok(match event_name(value).unwrap_or("") {
-        "campaigned" => campaigned(value),
-        "granted" => granted(value),
-        "acked" => acked(value, first),
-        "restarted" => restarted(value, first),
-        "wrote" => wrote(value),
-        "committed" => committed(value, first),
-        "applied" => applied(value, first, committed_by),
+        "campaigned" => campaigned(names, value),
+        "granted" => granted(names, value),
+        "acked" => acked(names, value, first),
+        "restarted" => restarted(names, value, first),
+        "wrote" => wrote(names, value),
+        "committed" => committed(names, value, first),
+        "applied" => applied(names, value, first, committed_by),
         _ => None,
     })
 }
 
 /// Returns the event that a server starts a campaign.
-fn campaigned(value: &Value) -> Option<Act>
-    ensures { IfSome result (λ e. (first : ℕ) → Says first (view value.now) (trace_event e)) }
+fn campaigned(names: &Names, value: &Value) -> Option<Act>
+    ensures { IfSome result (λ e. (first : ℕ) →
+        Says (numbering names.now) first (view value.now) (trace_event e)) }
 {
     if !is_named(value, "campaigned") {
         return None;
     }
     Some(Event::Campaigned {
-        server: number(value, "server")?,
+        server: id(names, value, "server")?,
         term: number(value, "term")?,
     })
 }
 
 /// Returns the event that a server grants its vote.
-fn granted(value: &Value) -> Option<Act>
-    ensures { IfSome result (λ e. (first : ℕ) → Says first (view value.now) (trace_event e)) }
+fn granted(names: &Names, value: &Value) -> Option<Act>
+    ensures { IfSome result (λ e. (first : ℕ) →
+        Says (numbering names.now) first (view value.now) (trace_event e)) }
 {
     if !is_named(value, "granted") {
         return None;
     }
     Some(Event::Granted {
-        server: number(value, "server")?,
+        server: id(names, value, "server")?,
         term: number(value, "term")?,
-        candidate: number(value, "candidate")?,
+        candidate: id(names, value, "candidate")?,
     })
 }
 
 /// Returns the event that a server takes entries. It keeps those up to the index `prev`.
-fn appended(alloc: Global, value: &Value, first: u64) -> Result<Option<Act>, AllocError>
-    ensures { IfOk result (λ o. IfSome o (λ e. Says first (view value.now) (trace_event e))) }
+fn appended(
+    alloc: Global,
+    names: &Names,
+    value: &Value,
+    first: u64,
+) -> Result<Option<Act>, AllocError>
+    ensures { IfOk result (λ o. IfSome o (λ e.
+        Says (numbering names.now) first (view value.now) (trace_event e))) }
 {
-    let Some((server, term, leader, keep)) = taken(value, "prev", first) else {
+    let Some((server, term, leader, keep)) = taken(names, value, "prev", first) else {
         return Ok(None);
     };
-    match entries(alloc, value)? {
+    match entries(alloc, names, value)? {
         Some(entries) => Ok(Some(Event::Appended {
             server,
             term,
@@ -87,63 +99,68 @@ fn appended(alloc: Global, value: &Value, first: u64) -> Result<Option<Act>, All
 
 /// Returns the server that installs a snapshot, the term, its leader, and how many entries the
 /// snapshot has, if the line is of one: it has no field `entries`.
-pub fn installed(value: &Value, first: u64) -> Option<(u64, u64, u64, usize)>
-    ensures taken { IfSome result (λ t. IsTaken (codes "index") first (view value.now) t) }
+pub fn installed(names: &Names, value: &Value, first: u64) -> Option<(u64, u64, u64, usize)>
+    ensures taken { IfSome result (λ t.
+        IsTaken (numbering names.now) (codes "index") first (view value.now) t) }
     ensures none { IsSome result → get (codes "entries") (view value.now) ≡ None }
 {
     if value.get("entries").is_some() {
         return None;
     }
-    taken(value, "index", first)
+    taken(names, value, "index", first)
 }
 
 /// Returns the server that takes entries, the term, its leader, and the number of entries up to the
 /// index of a field.
-fn taken(value: &Value, name: &str, first: u64) -> Option<(u64, u64, u64, usize)>
-    ensures { IfSome result (λ t. IsTaken name.now first (view value.now) t) }
+fn taken(names: &Names, value: &Value, name: &str, first: u64) -> Option<(u64, u64, u64, usize)>
+    ensures { IfSome result (λ t.
+        IsTaken (numbering names.now) name.now first (view value.now) t) }
 {
     if !is_named(value, "appended") {
         return None;
     }
     Some((
-        number(value, "server")?,
+        id(names, value, "server")?,
         number(value, "term")?,
-        number(value, "leader")?,
+        id(names, value, "leader")?,
         len(value, name, first)?,
     ))
 }
 
 /// Returns the event that a server acknowledges its entries up to an index.
-fn acked(value: &Value, first: u64) -> Option<Act>
-    ensures { IfSome result (λ e. Says first (view value.now) (trace_event e)) }
+fn acked(names: &Names, value: &Value, first: u64) -> Option<Act>
+    ensures { IfSome result (λ e.
+        Says (numbering names.now) first (view value.now) (trace_event e)) }
 {
     if !is_named(value, "acked") {
         return None;
     }
     Some(Event::Acked {
-        server: number(value, "server")?,
+        server: id(names, value, "server")?,
         term: number(value, "term")?,
-        leader: number(value, "leader")?,
+        leader: id(names, value, "leader")?,
         len: len(value, "index", first)?,
     })
 }
 
 /// Returns the event that a server restarts, with its entries up to an index.
-fn restarted(value: &Value, first: u64) -> Option<Act>
-    ensures { IfSome result (λ e. Says first (view value.now) (trace_event e)) }
+fn restarted(names: &Names, value: &Value, first: u64) -> Option<Act>
+    ensures { IfSome result (λ e.
+        Says (numbering names.now) first (view value.now) (trace_event e)) }
 {
     if !is_named(value, "restarted") {
         return None;
     }
     Some(Event::Restarted {
-        server: number(value, "server")?,
+        server: id(names, value, "server")?,
         len: len(value, "index", first)?,
     })
 }
 
 /// Returns the event that a leader writes an entry.
-fn wrote(value: &Value) -> Option<Act>
-    ensures { IfSome result (λ e. (first : ℕ) → Says first (view value.now) (trace_event e)) }
+fn wrote(names: &Names, value: &Value) -> Option<Act>
+    ensures { IfSome result (λ e. (first : ℕ) →
+        Says (numbering names.now) first (view value.now) (trace_event e)) }
 {
     // The members do not change yet, so a line with a config is no event.
     if !is_named(value, "wrote") || value.get("voters").is_some() {
@@ -151,26 +168,27 @@ fn wrote(value: &Value) -> Option<Act>
     }
     let term = number(value, "term")?;
     Some(Event::Wrote {
-        leader: number(value, "leader")?,
+        leader: id(names, value, "leader")?,
         term,
         entry: Entry {
             term,
-            content: number(value, "content")?,
+            content: id(names, value, "content")?,
         },
     })
 }
 
 /// Returns the event that a leader commits entries up to an index. The members do not change, so it
 /// does not matter by which of its entries the leader counted.
-fn committed(value: &Value, first: u64) -> Option<Act>
-    ensures { IfSome result (λ e. Says first (view value.now) (trace_event e)) }
+fn committed(names: &Names, value: &Value, first: u64) -> Option<Act>
+    ensures { IfSome result (λ e.
+        Says (numbering names.now) first (view value.now) (trace_event e)) }
 {
     if !is_named(value, "committed") {
         return None;
     }
     let len = len(value, "index", first)?;
     Some(Event::Committed {
-        leader: number(value, "leader")?,
+        leader: id(names, value, "leader")?,
         term: number(value, "term")?,
         len,
         counted_at: len,
@@ -180,15 +198,21 @@ fn committed(value: &Value, first: u64) -> Option<Act>
 /// Returns the event that a server applies entries up to an index. All that is committed is in the
 /// log of the leader with the greatest term that has committed entries, so the event names this
 /// leader. The judge refuses the event before if no leader has.
-fn applied(value: &Value, first: u64, committed_by: Option<(u64, u64)>) -> Option<Act>
-    ensures { IfSome result (λ e. Says first (view value.now) (trace_event e)) }
+fn applied(
+    names: &Names,
+    value: &Value,
+    first: u64,
+    committed_by: Option<(u64, u64)>,
+) -> Option<Act>
+    ensures { IfSome result (λ e.
+        Says (numbering names.now) first (view value.now) (trace_event e)) }
 {
     if !is_named(value, "applied") {
         return None;
     }
     let (term, leader) = committed_by.unwrap_or((0, 0));
     Some(Event::Applied {
-        server: number(value, "server")?,
+        server: id(names, value, "server")?,
         term,
         leader,
         len: len(value, "index", first)?,

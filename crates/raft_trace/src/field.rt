@@ -2,8 +2,10 @@
 ghost use Rattle.std.specs.Prelude.{◌≡◌, Some, IfOk, IfSome, IsTrue, option_map};
 ghost use Rattle.serde_json.specs.Read.{read};
 ghost use Rattle.serde_json.specs.View.{items_view, view};
-ghost use Rattle.raft_trace.specs.Fields.{HasConfigs, HasEntries, IsConfig, IsEntry, IsFirst, IsLen, IsNamed, list_in, number_in};
+ghost use Rattle.raft_trace.specs.Fields.{HasConfigs, HasEntries, IsConfig, IsEntry, IsFirst, IsId, IsLen, IsNamed, list_in, number_in};
+ghost use Rattle.raft_trace.specs.Names.{numbering};
 
+use crate::names::Names;
 use raft_safety::entry::Entry;
 use serde_json::Value;
 use std::alloc::{AllocError, Global};
@@ -50,6 +52,13 @@ pub fn number(value: &Value, name: &str) -> Option<u64>
     value.get(name).and_then(Value::as_u64)
 }
 
+/// Returns the number of a field that is a name.
+pub fn id(names: &Names, value: &Value, name: &str) -> Option<u64>
+    ensures { IfSome result (λ n. IsId (numbering names.now) name.now n (view value.now)) }
+{
+    names.number_of(value.get(name)?)
+}
+
 /// Returns the index of the first entry, 1 if the line does not say it.
 pub fn first_index(value: &Value) -> Option<u64>
     ensures { IfSome result (λ first. IsFirst first (view value.now)) }
@@ -79,15 +88,16 @@ fn list<'a>(value: &'a Value, name: &str) -> Option<&'a Vec<Value>>
 }
 
 /// Returns a list of voters.
-fn config(alloc: Global, value: &Value) -> Result<Option<Vec<u64>>, AllocError>
-    ensures { IfOk result (λ o. IfSome o (λ v. IsConfig (view value.now) v)) }
+fn config(alloc: Global, names: &Names, value: &Value) -> Result<Option<Vec<u64>>, AllocError>
+    ensures { IfOk result
+        (λ o. IfSome o (λ v. IsConfig (numbering names.now) (view value.now) v)) }
 {
     let Some(list) = value.as_array() else {
         return Ok(None);
     };
     let mut voters = Vec::new(alloc);
     for item in list {
-        let Some(voter) = item.as_u64() else {
+        let Some(voter) = names.number_of(item) else {
             return Ok(None);
         };
         voters.push(voter)?;
@@ -96,15 +106,20 @@ fn config(alloc: Global, value: &Value) -> Result<Option<Vec<u64>>, AllocError>
 }
 
 /// Returns the configs of a line, each a list of voters.
-pub fn configs(alloc: Global, value: &Value) -> Result<Option<Vec<Vec<u64>>>, AllocError>
-    ensures { IfOk result (λ o. IfSome o (λ v. HasConfigs (view value.now) v.items)) }
+pub fn configs(
+    alloc: Global,
+    names: &Names,
+    value: &Value,
+) -> Result<Option<Vec<Vec<u64>>>, AllocError>
+    ensures { IfOk result
+        (λ o. IfSome o (λ v. HasConfigs (numbering names.now) (view value.now) v.items)) }
 {
     let Some(list) = list(value, "voters") else {
         return Ok(None);
     };
     let mut configs = Vec::new(alloc);
     for item in list {
-        let Some(config) = config(alloc, item)? else {
+        let Some(config) = config(alloc, names, item)? else {
             return Ok(None);
         };
         configs.push(config)?;
@@ -113,25 +128,30 @@ pub fn configs(alloc: Global, value: &Value) -> Result<Option<Vec<Vec<u64>>>, Al
 }
 
 /// Returns an entry, which is a list of its term and its content.
-fn entry(value: &Value) -> Option<Entry<u64, u64>>
-    ensures { IfSome result (λ e. IsEntry (view value.now) e) }
+fn entry(names: &Names, value: &Value) -> Option<Entry<u64, u64>>
+    ensures { IfSome result (λ e. IsEntry (numbering names.now) (view value.now) e) }
 {
     Some(Entry {
         term: value.get(0).and_then(Value::as_u64)?,
-        content: value.get(1).and_then(Value::as_u64)?,
+        content: names.number_of(value.get(1)?)?,
     })
 }
 
 /// Returns the entries of a line.
-pub fn entries(alloc: Global, value: &Value) -> Result<Option<Vec<Entry<u64, u64>>>, AllocError>
-    ensures { IfOk result (λ o. IfSome o (λ v. HasEntries (view value.now) v.items)) }
+pub fn entries(
+    alloc: Global,
+    names: &Names,
+    value: &Value,
+) -> Result<Option<Vec<Entry<u64, u64>>>, AllocError>
+    ensures { IfOk result
+        (λ o. IfSome o (λ v. HasEntries (numbering names.now) (view value.now) v.items)) }
 {
     let Some(list) = list(value, "entries") else {
         return Ok(None);
     };
     let mut entries = Vec::new(alloc);
     for item in list {
-        let Some(entry) = entry(item) else {
+        let Some(entry) = entry(names, item) else {
             return Ok(None);
         };
         entries.push(entry)?;

@@ -3,6 +3,7 @@ ghost use Rattle.std.specs.Prelude.{◌≡◌, IfErr, IfOk, IfSome, IsTrue, OnOk
 ghost use Rattle.raft_safety.specs.Checker.{event_of as trace_event};
 ghost use Rattle.serde_json.specs.View.{view};
 ghost use Rattle.raft_trace.specs.Line.{Says};
+ghost use Rattle.raft_trace.specs.Names.{numbering};
 ghost use Rattle.raft_trace.specs.Numbers.{number_tests};
 ghost use Rattle.raft_trace.specs.Run.{Fills, IsBroken, IsSafeRun, IsStarted, Refuses, Takes, TakesAll, TakesEvent};
 
@@ -11,6 +12,7 @@ use crate::event::{Act, event_of, installed};
 use crate::fault::Fault;
 use crate::field::{configs, first_index, is_named, value_of};
 use crate::input::{open, read_line};
+use crate::names::Names;
 use crate::text::{push_fault, push_safe};
 use raft_safety::checker::{Checker, Violation};
 use raft_safety::event::Event;
@@ -28,6 +30,8 @@ pub struct Judge {
     pub checker: Checker<u64, u64, u64, Memberships<u64, u64>>,
     /// The index of the first entry.
     pub first: u64,
+    /// The names of servers and of contents.
+    pub names: Names,
     /// What is counted of the events so far.
     pub counts: Counts,
 }
@@ -103,7 +107,9 @@ fn start(alloc: Global, line: &[u8]) -> Result<Judge, Fault>
     let Some(first) = first_index(&value) else {
         return Err(Fault::Malformed);
     };
-    let Some(initial) = configs(alloc, &value)? else {
+    let mut names = Names::new(alloc);
+    names.learn(&value)?;
+    let Some(initial) = configs(alloc, &names, &value)? else {
         return Err(Fault::Malformed);
     };
     let counts = Counts::new(alloc, &initial)?;
@@ -114,6 +120,7 @@ fn start(alloc: Global, line: &[u8]) -> Result<Judge, Fault>
     Ok(Judge {
         checker,
         first,
+        names,
         counts,
     })
 }
@@ -137,16 +144,24 @@ impl Judge {
         let Some(value) = value_of(alloc, line)? else {
             return Err(Fault::Malformed);
         };
+        self.names.learn(&value)?;
         let event = self.event(alloc, &value)?;
         self.take_event(&event)
     }
 
     /// Returns the event that a line says. The entries of a snapshot are those of the leader.
     fn event(&self, alloc: Global, value: &Value) -> Result<Act, Fault>
-        ensures { IfOk result (λ e. Says self.now.first (view value.now) (trace_event e)) }
+        ensures { IfOk result (λ e.
+            Says (numbering self.now.names) self.now.first (view value.now) (trace_event e)) }
     {
-        let Some((server, term, leader, len)) = installed(value, self.first) else {
-            let event = event_of(alloc, value, self.first, self.counts.committed_by)?;
+        let Some((server, term, leader, len)) = installed(&self.names, value, self.first) else {
+            let event = event_of(
+                alloc,
+                &self.names,
+                value,
+                self.first,
+                self.counts.committed_by,
+            )?;
             return event.ok_or(Fault::Malformed);
         };
         match self.checker.leader_entries(alloc, term, leader, len)? {

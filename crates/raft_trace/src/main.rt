@@ -8,6 +8,7 @@ mod fault;
 mod field;
 mod input;
 mod judge;
+mod names;
 #[cfg(test)]
 mod tests;
 mod text;

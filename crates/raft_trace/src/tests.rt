@@ -1,5 +1,7 @@
 //! Answers to recorded runs.
 
+mod names;
+
 use crate::judge::run;
 use std::alloc::{AllocError, Global};
 use std::test::Fail;
@@ -60,7 +62,7 @@ const ROWS: [(&str, u8, &str); 17] = [
     (
         r#"{"event":"restarted","server":1,"index":0}"#,
         2,
-        "line 9: `restarted` needs the numbers `server` and `index`\n",
+        "line 9: `restarted` needs the text or number `server`, and the number `index`\n",
     ),
     (
         r#"{"event":"applied","server":2,"index":2}"#,
@@ -68,14 +70,16 @@ const ROWS: [(&str, u8, &str); 17] = [
         "line 9: server 2 applies up to index 2: the entries are not known to be committed\n",
     ),
     (
-        r#"{"event":"acked","server":"b","term":1,"leader":1,"index":2}"#,
+        r#"{"event":"acked","server":[2],"term":1,"leader":1,"index":2}"#,
         2,
-        "line 9: `acked` needs the numbers `server`, `term`, `leader` and `index`\n",
+        "line 9: `acked` needs the texts or numbers `server` and `leader`, and the numbers `term` \
+            and `index`\n",
     ),
     (
         r#"{"event":"wrote","leader":1,"term":1,"index":3,"content":8,"voters":[[1,2]]}"#,
         2,
-        "line 9: `wrote` needs the numbers `leader`, `term` and `content`, and no `voters`\n",
+        "line 9: `wrote` needs the texts or numbers `leader` and `content`, the number `term`, and no \
+            `voters`\n",
     ),
     (
         r#"{"event":"appended","server":3,"term":2,"leader":3,"index":1}"#,

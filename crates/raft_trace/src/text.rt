@@ -3,7 +3,7 @@ ghost use Rattle.std.specs.Prelude.{◌<◌, IfOk};
 
 use crate::counts::Counts;
 use crate::fault::Fault;
-use crate::field::{event_name, number, value_of};
+use crate::field::{event_name, value_of};
 use raft_safety::checker::Violation;
 use serde_json::Value;
 use std::alloc::{AllocError, Global};
@@ -54,42 +54,46 @@ pub fn push_fault(
 /// Returns why the value of the line with a number is no event.
 fn reason(number: u64, value: &Value) -> &'static str {
     if number == 1 {
-        return "it has to be `started`, with lists of numbers `voters`, and a number `first` or none";
+        return "it has to be `started`, with lists of texts or numbers `voters`, and a number `first` or none";
     }
     match event_name(value).unwrap_or("") {
         "" => "it is no JSON with a text `event`",
         "started" => "only the first line is `started`",
-        "campaigned" => "`campaigned` needs the numbers `server` and `term`",
-        "granted" => "`granted` needs the numbers `server`, `term` and `candidate`",
-        "appended" => {
-            "`appended` needs the numbers `server`, `term` and `leader`, and `prev` and the pairs `entries`, or `index`"
+        "campaigned" => "`campaigned` needs the text or number `server`, and the number `term`",
+        "granted" => {
+            "`granted` needs the texts or numbers `server` and `candidate`, and the number `term`"
         }
-        "acked" => "`acked` needs the numbers `server`, `term`, `leader` and `index`",
-        "restarted" => "`restarted` needs the numbers `server` and `index`",
-        "wrote" => "`wrote` needs the numbers `leader`, `term` and `content`, and no `voters`",
-        "committed" => "`committed` needs the numbers `leader`, `term` and `index`",
-        "applied" => "`applied` needs the numbers `server` and `index`",
+        "appended" => {
+            "`appended` needs the texts or numbers `server` and `leader`, the number `term`, and the number `prev` and the pairs `entries`, or the number `index`"
+        }
+        "acked" => {
+            "`acked` needs the texts or numbers `server` and `leader`, and the numbers `term` and `index`"
+        }
+        "restarted" => "`restarted` needs the text or number `server`, and the number `index`",
+        "wrote" => {
+            "`wrote` needs the texts or numbers `leader` and `content`, the number `term`, and no `voters`"
+        }
+        "committed" => {
+            "`committed` needs the text or number `leader`, and the numbers `term` and `index`"
+        }
+        "applied" => "`applied` needs the text or number `server`, and the number `index`",
         _ => "there is no event of this name",
     }
 }
 
-/// Returns a field that is a number, and 0 if it is none.
-fn field(value: &Value, name: &str) -> u64 {
-    number(value, name).unwrap_or(0)
-}
-
-/// Writes what an event says.
+/// Writes what an event says, with names as JSON has them.
 fn push_event(answer: &mut String, value: &Value) -> Result<(), AllocError> {
-    let server = field(value, "server");
-    let leader = field(value, "leader");
-    let term = field(value, "term");
-    let index = field(value, "index");
+    let missing = Value::Null;
+    let server = value.get("server").unwrap_or(&missing);
+    let leader = value.get("leader").unwrap_or(&missing);
+    let term = value.get("term").unwrap_or(&missing);
+    let index = value.get("index").unwrap_or(&missing);
     match event_name(value).unwrap_or("") {
         "campaigned" => write!(answer, "server {server} campaigns in term {term}")?,
         "granted" => write!(
             answer,
             "server {server} votes in term {term} for {}",
-            field(value, "candidate")
+            value.get("candidate").unwrap_or(&missing)
         )?,
         "appended" if value.get("entries").is_none() => write!(
             answer,
@@ -98,7 +102,7 @@ fn push_event(answer: &mut String, value: &Value) -> Result<(), AllocError> {
         "appended" => write!(
             answer,
             "server {server} takes entries after index {} from {leader} in term {term}",
-            field(value, "prev")
+            value.get("prev").unwrap_or(&missing)
         )?,
         "acked" => write!(
             answer,

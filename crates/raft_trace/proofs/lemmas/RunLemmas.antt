@@ -12,7 +12,10 @@ use Rattle.raft_safety.specs.declared.memberships.Memberships.{Memberships}
 use Rattle.raft_trace.specs.Input.{TakesLine, lines}
 use Rattle.raft_trace.specs.Line.{Says}
 use Rattle.raft_trace.specs.Run.{Fills, FillsIn, GoesOn, HasTaken, IsFilledIn, IsSafeRun, IsStarted, IsTraceOf, Refuses, SafeRun, SaysStart, Takes, TakesAll, TakesEvent, and_lines}
+use Rattle.raft_trace.specs.Names.{Extends, IsTable, Learns, Numbering, numbering}
 use Rattle.raft_trace.specs.declared.judge.Judge.{Judge}
+use Rattle.raft_trace.specs.declared.names.Names.{Names}
+use Rattle.raft_trace.proofs.lemmas.NameLemmas.{start_more, trace_more}
 use Rattle.raft_trace.proofs.lemmas.VoteLemmas.{no_votes_in}
 
 -- what holds of each error holds of the one that is returned, if there is one
@@ -34,22 +37,35 @@ fills_more before es after one two = (
 )
 
 -- events that are filled in after a trace of lines are part of a trace of these lines
-pub trace_fills : (first : ℕ) (taken : List (List ℕ)) (es after : List (TraceEvent ℕ ℕ ℕ))
-    → IsTraceOf first taken es → FillsIn es after → IsTraceOf first taken after
-trace_fills first [] es after is fills = fills_more [] es after is fills
-trace_fills first (line ∷ taken) es after is fills =
+pub trace_fills : (number_of : Numbering) (first : ℕ) (taken : List (List ℕ)) (es after : List (TraceEvent ℕ ℕ ℕ))
+    → IsTraceOf number_of first taken es → FillsIn es after → IsTraceOf number_of first taken after
+trace_fills number_of first [] es after is fills = fills_more [] es after is fills
+trace_fills number_of first (line ∷ taken) es after is fills =
     (is.0, is.1, (is.2.0, is.2.1, fills_more is.2.0 es after is.2.2 fills))
+
+-- the trace of lines stays so if a judge reads lines as before
+trace_same : (old new : Judge) (taken : List (List ℕ)) (es : List (TraceEvent ℕ ℕ ℕ)) → new.first ≡ old.first
+    → new.names ≡ old.names → IsTraceOf (numbering old.names) old.first taken es
+    → IsTraceOf (numbering new.names) new.first taken es
+trace_same old new taken es first names is =
+    subst (λ (t : Names). IsTraceOf (numbering t) new.first taken es) (sym names)
+    (subst (λ (n : ℕ). IsTraceOf (numbering old.names) n taken es) (sym first) is)
+
+extends_same : (old new : Names) → new ≡ old → Extends (numbering old) (numbering new)
+extends_same old new same = subst (λ (t : Names). Extends (numbering old) (numbering t)) (sym same) (λ a n is. is)
 
 module _ (tests : Memberships ℕ ℕ → Tests ℕ ℕ ℕ (Option ℕ)) where
   -- a judge that is made has taken no line
   pub started : (line : List ℕ) (judge : Judge) (members : Memberships ℕ ℕ) → configs_of judge.checker ≡ members
-      → SaysStart line members.initial.items judge.first → members.held.items ≡ [] → AreExact (tests members)
+      → SaysStart (numbering judge.names) line members.initial.items judge.first → members.held.items ≡ []
+      → IsTable judge.names → AreExact (tests members)
       → KeepsEvents (tests members) [] (kept_by judge.checker) → judge.counts.votes.entries ≡ []
       → IsStarted tests line judge
-  started line judge members is says none exact keeps no_votes = (
-    subst (λ (m : Memberships ℕ ℕ). SaysStart line m.initial.items judge.first) (sym is) says,
+  started line judge members is says none table exact keeps no_votes = (
+    subst (λ (m : Memberships ℕ ℕ). SaysStart (numbering judge.names) line m.initial.items judge.first) (sym is) says,
     record {
       exact = subst (λ (m : Memberships ℕ ℕ). AreExact (tests m)) (sym is) exact;
+      table = table;
       trace = [];
       is_trace = fills_none [];
       no_changes = ap (λ (m : Memberships ℕ ℕ). m.held.items) is ∙ none;
@@ -61,9 +77,10 @@ module _ (tests : Memberships ℕ ℕ → Tests ℕ ℕ ℕ (Option ℕ)) where
   -- an empty line is taken by doing nothing
   pub takes_empty : (line : List ℕ) (judge : Judge) → line ≡ [] → Takes tests line judge judge
   takes_empty line judge is = (
-    (refl, refl),
+    (refl, refl, λ a n is. is),
     λ taken has. record {
       exact = has.exact;
+      table = has.table;
       trace = has.trace;
       is_trace = (has.trace, has.is_trace, (has.trace, inl (is, refl), fills_none has.trace));
       no_changes = has.no_changes;
@@ -74,18 +91,23 @@ module _ (tests : Memberships ℕ ℕ → Tests ℕ ℕ ℕ (Option ℕ)) where
 
   -- a line is taken by taking the event that it says
   pub takes_event : (line : List ℕ) (old new : Judge) (d : Data) (e : TraceEvent ℕ ℕ ℕ) → read line ≡ Some d
-      → Says old.first d e → TakesEvent tests e old new → Takes tests line old new
+      → Says (numbering old.names) old.first d e → TakesEvent tests e old new → Takes tests line old new
   takes_event line old new d e reads says taken_event = (
-    (ap (λ (m : Memberships ℕ ℕ). m.initial) taken_event.0, taken_event.1),
+    (
+      ap (λ (m : Memberships ℕ ℕ). m.initial) taken_event.0,
+      taken_event.1,
+      extends_same old.names new.names taken_event.2,
+    ),
     λ taken has.
-        let next = taken_event.2 has.exact has.trace has.keeps has.votes in
+        let next = taken_event.3 has.exact has.trace has.keeps has.votes in
         let same : tests (configs_of old.checker) ≡ tests (configs_of new.checker) = ap tests (sym taken_event.0) in
         record {
           exact = subst (λ (k : Tests ℕ ℕ ℕ (Option ℕ)). AreExact k) same has.exact;
+          table = subst (λ (t : Names). IsTable t) (sym taken_event.2) has.table;
           trace = next.0;
-          is_trace = subst (λ (n : ℕ). IsTraceOf n (line ∷ taken) next.0) (sym taken_event.1) (
+          is_trace = trace_same old new (line ∷ taken) next.0 taken_event.1 taken_event.2 (
             next.1.0,
-            trace_fills old.first taken has.trace next.1.0 has.is_trace next.1.1,
+            trace_fills (numbering old.names) old.first taken has.trace next.1.0 has.is_trace next.1.1,
             (next.0, inr (d, e, reads, says, next.1.2), fills_none next.0),
           );
           no_changes = ap (λ (m : Memberships ℕ ℕ). m.held.items) taken_event.0 ∙ has.no_changes;
@@ -97,15 +119,16 @@ module _ (tests : Memberships ℕ ℕ → Tests ℕ ℕ ℕ (Option ℕ)) where
   -- a line is refused: events may have been filled in
   pub refuses : (old new : Judge) → Fills tests old new → Refuses tests old new
   refuses old new fills = (
-    (ap (λ (m : Memberships ℕ ℕ). m.initial) fills.0, fills.1),
+    (ap (λ (m : Memberships ℕ ℕ). m.initial) fills.0, fills.1, extends_same old.names new.names fills.2),
     λ taken has.
-        let next = fills.2 has.exact has.trace has.keeps has.votes in
+        let next = fills.3 has.exact has.trace has.keeps has.votes in
         let same : tests (configs_of old.checker) ≡ tests (configs_of new.checker) = ap tests (sym fills.0) in
         record {
           exact = subst (λ (k : Tests ℕ ℕ ℕ (Option ℕ)). AreExact k) same has.exact;
+          table = subst (λ (t : Names). IsTable t) (sym fills.2) has.table;
           trace = next.0;
-          is_trace = subst (λ (n : ℕ). IsTraceOf n taken next.0) (sym fills.1)
-              (trace_fills old.first taken has.trace next.0 has.is_trace next.1);
+          is_trace = trace_same old new taken next.0 fills.1 fills.2
+              (trace_fills (numbering old.names) old.first taken has.trace next.0 has.is_trace next.1);
           no_changes = ap (λ (m : Memberships ℕ ℕ). m.held.items) fills.0 ∙ has.no_changes;
           keeps = subst (λ (k : Tests ℕ ℕ ℕ (Option ℕ)). KeepsEvents k next.0 (kept_by new.checker)) same next.2;
           votes = next.3;
@@ -114,7 +137,36 @@ module _ (tests : Memberships ℕ ℕ → Tests ℕ ℕ ℕ (Option ℕ)) where
 
   -- a line that is refused at once
   pub fills_nothing : (judge : Judge) → Fills tests judge judge
-  fills_nothing judge = (refl, refl, λ exact es keeps votes. (es, fills_none es, keeps, votes))
+  fills_nothing judge = (refl, refl, refl, λ exact es keeps votes. (es, fills_none es, keeps, votes))
+
+  -- a judge has taken the same lines after names have got numbers
+  learned : (taken : List (List ℕ)) (judge : Judge) (names : Names) → Learns judge.names names
+      → HasTaken tests taken judge → HasTaken tests taken (record judge { names = names })
+  learned taken judge names learns has = record {
+    exact = has.exact;
+    table = learns.1 has.table;
+    trace = has.trace;
+    is_trace = trace_more (numbering judge.names) (numbering names) learns.0 judge.first taken has.trace has.is_trace;
+    no_changes = has.no_changes;
+    keeps = has.keeps;
+    votes = has.votes;
+  }
+
+  -- a line is taken after names have got numbers
+  pub takes_learned : (line : List ℕ) (old : Judge) (names : Names) (new : Judge) → Learns old.names names
+      → Takes tests line (record old { names = names }) new → Takes tests line old new
+  takes_learned line old names new learns takes = (
+    (takes.0.0, takes.0.1, λ a n is. takes.0.2 a n (learns.0 a n is)),
+    λ taken has. takes.1 taken (learned taken old names learns has),
+  )
+
+  -- a line is refused after names have got numbers
+  pub refuses_learned : (old : Judge) (names : Names) (new : Judge) → Learns old.names names
+      → Refuses tests (record old { names = names }) new → Refuses tests old new
+  refuses_learned old names new learns refused = (
+    (refused.0.0, refused.0.1, λ a n is. refused.0.2 a n (learns.0 a n is)),
+    λ taken has. refused.1 taken (learned taken old names learns has),
+  )
 
   -- what is left of a text, after a judge has taken some of its lines
   abbrev pub HasPassed : Option (List ℕ) → Judge → Option (List ℕ) → Judge → Type 0
@@ -128,7 +180,7 @@ module _ (tests : Memberships ℕ ℕ → Tests ℕ ℕ ℕ (Option ℕ)) where
 
   pub passed_none : (rest : Option (List ℕ)) (judge : Judge) → HasPassed rest judge rest judge
   passed_none None judge = tt
-  passed_none (Some text) judge = ((refl, refl), λ taken has. (taken, has, refl))
+  passed_none (Some text) judge = ((refl, refl, λ a n is. is), λ taken has. (taken, has, refl))
 
   pub passed_more : (text rest next : Option (List ℕ)) (old now new : Judge) (line : List ℕ) (is_last : Bool)
       → is_last ≡ false → HasPassed text old rest now → TakesLine rest line is_last next → Takes tests line now new
@@ -139,7 +191,7 @@ module _ (tests : Memberships ℕ ℕ → Tests ℕ ℕ ℕ (Option ℕ)) where
   passed_more (Some text) (Some rest) (Some next) old now new line is_last not_last passed reads takes =
       let cut : lines rest ≡ line ∷ lines next =
       subst (λ (b : Bool). TakesLine (Some rest) line b (Some next)) not_last reads in (
-        (takes.0.0 ∙ passed.0.0, takes.0.1 ∙ passed.0.1),
+        (takes.0.0 ∙ passed.0.0, takes.0.1 ∙ passed.0.1, λ a n is. takes.0.2 a n (passed.0.2 a n is)),
         λ taken has.
             let so_far = passed.1 taken has in (
               line ∷ so_far.0,
@@ -157,7 +209,7 @@ module _ (tests : Memberships ℕ ℕ → Tests ℕ ℕ ℕ (Option ℕ)) where
   passed_last (Some text) (Some rest) (Some next) old now new line is_last last passed reads takes =
       let cut : lines rest ≡ line ∷ [] =
       (subst (λ (b : Bool). TakesLine (Some rest) line b (Some next)) last reads).0 in (
-        (takes.0.0 ∙ passed.0.0, takes.0.1 ∙ passed.0.1),
+        (takes.0.0 ∙ passed.0.0, takes.0.1 ∙ passed.0.1, λ a n is. takes.0.2 a n (passed.0.2 a n is)),
         λ taken has.
             let so_far = passed.1 taken has in
             let all : and_lines taken (lines text) ≡ line ∷ so_far.0 = so_far.2 ∙ ap (and_lines so_far.0) cut in
@@ -167,18 +219,23 @@ module _ (tests : Memberships ℕ ℕ → Tests ℕ ℕ ℕ (Option ℕ)) where
   -- a judge that has taken all lines after the first one
   is_safe : ((m : Memberships ℕ ℕ) (t u : ℕ) → (tests m).rank t ≡ (tests m).rank u → t ≡ u)
       → TracesAreExecutions ℕ ℕ ℕ (Option ℕ) → (text line : List ℕ) (later : List (List ℕ)) (old new : Judge)
-      → lines text ≡ line ∷ later → SaysStart line (configs_of old.checker).initial.items old.first → GoesOn tests old new
+      → lines text ≡ line ∷ later
+      → SaysStart (numbering old.names) line (configs_of old.checker).initial.items old.first → GoesOn tests old new
       → HasTaken tests (and_lines [] later) new → SafeRun tests text
   is_safe ranks law text line later old new is says goes has =
-      let starts : SaysStart line (configs_of new.checker).initial.items new.first =
-      subst (λ (v : Vec (Vec ℕ)). SaysStart line v.items new.first) (sym goes.0)
-      (subst (λ (n : ℕ). SaysStart line (configs_of old.checker).initial.items n) (sym goes.1) says) in
+      let configs = (configs_of old.checker).initial.items in
+      let starts : SaysStart (numbering new.names) line (configs_of new.checker).initial.items new.first =
+      subst (λ (v : Vec (Vec ℕ)). SaysStart (numbering new.names) line v.items new.first) (sym goes.0)
+      (subst (λ (n : ℕ). SaysStart (numbering new.names) line configs n) (sym goes.1)
+      (start_more (numbering old.names) (numbering new.names) goes.2 line configs old.first says)) in
       record {
         first_line = line;
         later = later;
         lines_are = is;
         members = configs_of new.checker;
         first = new.first;
+        number_of = numbering new.names;
+        apart = has.table.apart;
         starts = starts;
         no_changes = has.no_changes;
         trace = has.trace;
@@ -198,7 +255,7 @@ module _ (tests : Memberships ℕ ℕ → Tests ℕ ℕ ℕ (Option ℕ)) where
   safe_alone ranks law (Some text) (Some next) line is_last judge last reads start =
       let cut : lines text ≡ line ∷ [] =
       (subst (λ (b : Bool). TakesLine (Some text) line b (Some next)) last reads).0 in
-      is_safe ranks law text line [] judge judge cut start.0 (refl, refl) start.1
+      is_safe ranks law text line [] judge judge cut start.0 (refl, refl, λ a n is. is) start.1
 
   -- all lines after the first one are taken
   pub safe_all : ((m : Memberships ℕ ℕ) (t u : ℕ) → (tests m).rank t ≡ (tests m).rank u → t ≡ u)

@@ -9,6 +9,7 @@ returns-then-has_vote-clause-taken c =
     let last = c.has_vote.ensures c.if-has_vote.true in (
       refl,
       refl,
+      refl,
       λ exact es keeps votes. (
         es,
         (
@@ -25,12 +26,14 @@ pub returns-in_err-record-clause-broken : goal.returns-in_err-record-clause-brok
 returns-in_err-record-clause-broken c = whatever_err c.from_residual.result _ λ fault broken. (
   c.in_err-record.ensures.configs,
   refl,
+  refl,
   λ exact es keeps votes. (es, fills_none es, (c.in_err-record.ensures.answer exact es keeps).1, votes),
 )
 
 pub returns-clause-taken : goal.returns-clause-taken
 returns-clause-taken c = (
   c.in_ok-record.ensures.configs,
+  refl,
   refl,
   λ exact es keeps votes. (
     trace_event c.args.event.now ∷ es,
