@@ -6,7 +6,7 @@ mod tests;
 
 use crate::chart::column::Column;
 use crate::event::Act;
-use crate::field::is_named;
+use crate::field::{is_named, value_of};
 use raft_safety::entry::Entry;
 use raft_safety::event::Event;
 use serde_json::Value;
@@ -73,7 +73,7 @@ pub struct Chart {
 impl Chart {
     /// Returns a chart with no row, of a cluster whose first entry has this index. If the chart is not
     /// wanted, it stays empty.
-    pub fn new(alloc: Global, first: u64, is_drawn: bool) -> Chart {
+    fn new(alloc: Global, first: u64, is_drawn: bool) -> Chart {
         Chart {
             is_drawn,
             alloc,
@@ -93,9 +93,28 @@ impl Chart {
         }
     }
 
-    /// Adds a column for each voter of the configs, which have these names.
-    pub fn add_voters(&mut self, configs: &[Vec<u64>], names: &[Value]) -> Result<(), AllocError> {
-        for (config, names) in configs.iter().zip(names) {
+    /// Returns the chart of a cluster that starts as a line says, with a column for each voter of these
+    /// configs. If the chart is not wanted, it stays empty.
+    pub fn start(
+        alloc: Global,
+        line: &[u8],
+        first: u64,
+        configs: &[Vec<u64>],
+        is_drawn: bool,
+    ) -> Result<Chart, AllocError> {
+        let mut chart = Chart::new(alloc, first, is_drawn);
+        if is_drawn && let Some(value) = value_of(alloc, line)? {
+            chart.add_voters(configs, &value)?;
+        }
+        Ok(chart)
+    }
+
+    /// Adds a column for each voter of the configs, which have the names that the line says.
+    fn add_voters(&mut self, configs: &[Vec<u64>], line: &Value) -> Result<(), AllocError> {
+        let Some(lists) = line.get("voters").and_then(Value::as_array) else {
+            return Ok(());
+        };
+        for (config, names) in configs.iter().zip(lists) {
             if let Some(names) = names.as_array() {
                 self.add_config(config, names)?;
             }
@@ -246,7 +265,7 @@ impl Chart {
         if self.is_snapshot {
             self.words.push_str(" installs a snapshot")?;
         } else if dropped > 0 {
-            write!(self.words, " truncates {dropped} of {had} entries")?;
+            write!(self.words, " truncates {dropped} of {had}")?;
         } else {
             return Ok(());
         }
@@ -264,7 +283,7 @@ impl Chart {
         if len >= had {
             return Ok(());
         }
-        write!(self.words, " restarts with {len} of {had} entries")?;
+        write!(self.words, " restarts with {len} of {had}")?;
         self.draw()
     }
 

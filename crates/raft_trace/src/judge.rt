@@ -7,6 +7,7 @@ ghost use Rattle.raft_trace.specs.Names.{numbering};
 ghost use Rattle.raft_trace.specs.Numbers.{number_tests};
 ghost use Rattle.raft_trace.specs.Run.{Fills, IsBroken, IsSafeRun, IsStarted, Refuses, Takes, TakesAll, TakesEvent};
 
+use crate::chart::Chart;
 use crate::counts::Counts;
 use crate::event::{Act, event_of, installed};
 use crate::fault::Fault;
@@ -34,6 +35,8 @@ pub struct Judge {
     pub names: Names,
     /// What is counted of the events so far.
     pub counts: Counts,
+    /// The chart of the events so far.
+    pub chart: Chart,
 }
 
 /// Judges the lines of a reader, and writes the answer.
@@ -57,7 +60,7 @@ fn judge_lines<R: Read + Drop>(alloc: Global, reader: R, answer: &mut String) ->
     let mut line = Vec::new(alloc);
     let is_last = read_line(&mut input, &mut line)?;
     traces_are_executions::<u64, u64, u64, Option<u64>>();
-    match start(alloc, &line) {
+    match start(alloc, &line, false) {
         Ok(mut judge) => {
             if is_last {
                 push_safe(answer, &judge.counts)?;
@@ -82,7 +85,7 @@ fn judge_rest<B: BufRead>(
     let mut line = Vec::new(alloc);
     for number in 2..u64::MAX {
         let is_last = read_line(input, &mut line)?;
-        match judge.take(alloc, &line) {
+        match judge.take(alloc, number, &line) {
             Ok(()) => {}
             Err(fault) => return Ok(push_fault(alloc, answer, number, &line, fault)?),
         }
@@ -94,8 +97,8 @@ fn judge_rest<B: BufRead>(
     Ok(3)
 }
 
-/// Returns the judge of a cluster that starts as the line says.
-fn start(alloc: Global, line: &[u8]) -> Result<Judge, Fault>
+/// Returns the judge of a cluster that starts as the line says, which draws a chart if that is wanted.
+fn start(alloc: Global, line: &[u8], is_drawn: bool) -> Result<Judge, Fault>
     ensures { IfOk result (λ j. IsStarted number_tests line.now j) }
 {
     let Some(value) = value_of(alloc, line)? else {
@@ -113,6 +116,7 @@ fn start(alloc: Global, line: &[u8]) -> Result<Judge, Fault>
         return Err(Fault::Malformed);
     };
     let counts = Counts::new(alloc, &initial)?;
+    let chart = Chart::start(alloc, line, first, &initial, is_drawn)?;
     let held = Vec::new(alloc);
     let memberships = Memberships { initial, held };
     memberships_are_exact::<u64, u64, u64>(&memberships);
@@ -122,18 +126,19 @@ fn start(alloc: Global, line: &[u8]) -> Result<Judge, Fault>
         first,
         names,
         counts,
+        chart,
     })
 }
 
 impl Judge {
-    /// Takes the next line. An empty line says nothing, and a vote that a server sends again is left
-    /// out.
+    /// Takes the next line, whose row in the chart has this number. An empty line says nothing, and a
+    /// vote that a server sends again is left out.
     ///
     /// # Errors
     ///
     /// Why the line is not taken. If it breaks a rule, the judge still has taken the lines before, so
     /// it may take another one.
-    pub fn take(&mut self, alloc: Global, line: &[u8]) -> Result<(), Fault>
+    pub fn take(&mut self, alloc: Global, number: u64, line: &[u8]) -> Result<(), Fault>
         ensures taken { OnOk result (Takes number_tests line.now self.old self.new) }
         ensures broken { IfErr result (λ fault. IsBroken fault →
             Refuses number_tests self.old self.new) }
@@ -145,6 +150,7 @@ impl Judge {
             return Err(Fault::Malformed);
         };
         self.names.learn(&value)?;
+        self.chart.begin(number, &value)?;
         let event = self.event(alloc, &value)?;
         self.take_event(&event)
     }
@@ -192,6 +198,7 @@ impl Judge {
         }
         self.checker.record(event)?;
         self.counts.note(event)?;
+        self.chart.note(event)?;
         Ok(())
     }
 }

@@ -13,6 +13,7 @@ use Rattle.raft_trace.specs.Input.{TakesLine, lines}
 use Rattle.raft_trace.specs.Line.{Says}
 use Rattle.raft_trace.specs.Run.{Fills, FillsIn, GoesOn, HasTaken, IsFilledIn, IsSafeRun, IsStarted, IsTraceOf, Refuses, SafeRun, SaysStart, Takes, TakesAll, TakesEvent, and_lines}
 use Rattle.raft_trace.specs.Names.{Extends, IsTable, Learns, Numbering, numbering}
+use Rattle.raft_trace.specs.declared.chart.Chart.{Chart}
 use Rattle.raft_trace.specs.declared.judge.Judge.{Judge}
 use Rattle.raft_trace.specs.declared.names.Names.{Names}
 use Rattle.raft_trace.proofs.lemmas.NameLemmas.{start_more, trace_more}
@@ -139,10 +140,10 @@ module _ (tests : Memberships ℕ ℕ → Tests ℕ ℕ ℕ (Option ℕ)) where
   pub fills_nothing : (judge : Judge) → Fills tests judge judge
   fills_nothing judge = (refl, refl, refl, λ exact es keeps votes. (es, fills_none es, keeps, votes))
 
-  -- a judge has taken the same lines after names have got numbers
-  learned : (taken : List (List ℕ)) (judge : Judge) (names : Names) → Learns judge.names names
-      → HasTaken tests taken judge → HasTaken tests taken (record judge { names = names })
-  learned taken judge names learns has = record {
+  -- a judge has taken the same lines after names have got numbers, and with any chart
+  learned : (taken : List (List ℕ)) (judge : Judge) (names : Names) (chart : Chart) → Learns judge.names names
+      → HasTaken tests taken judge → HasTaken tests taken (record judge { names = names; chart = chart })
+  learned taken judge names chart learns has = record {
     exact = has.exact;
     table = learns.1 has.table;
     trace = has.trace;
@@ -153,19 +154,20 @@ module _ (tests : Memberships ℕ ℕ → Tests ℕ ℕ ℕ (Option ℕ)) where
   }
 
   -- a line is taken after names have got numbers
-  pub takes_learned : (line : List ℕ) (old : Judge) (names : Names) (new : Judge) → Learns old.names names
-      → Takes tests line (record old { names = names }) new → Takes tests line old new
-  takes_learned line old names new learns takes = (
+  pub takes_learned : (line : List ℕ) (old : Judge) (names : Names) (chart : Chart) (new : Judge)
+      → Learns old.names names → Takes tests line (record old { names = names; chart = chart }) new
+      → Takes tests line old new
+  takes_learned line old names chart new learns takes = (
     (takes.0.0, takes.0.1, λ a n is. takes.0.2 a n (learns.0 a n is)),
-    λ taken has. takes.1 taken (learned taken old names learns has),
+    λ taken has. takes.1 taken (learned taken old names chart learns has),
   )
 
   -- a line is refused after names have got numbers
-  pub refuses_learned : (old : Judge) (names : Names) (new : Judge) → Learns old.names names
-      → Refuses tests (record old { names = names }) new → Refuses tests old new
-  refuses_learned old names new learns refused = (
+  pub refuses_learned : (old : Judge) (names : Names) (chart : Chart) (new : Judge) → Learns old.names names
+      → Refuses tests (record old { names = names; chart = chart }) new → Refuses tests old new
+  refuses_learned old names chart new learns refused = (
     (refused.0.0, refused.0.1, λ a n is. refused.0.2 a n (learns.0 a n is)),
-    λ taken has. refused.1 taken (learned taken old names learns has),
+    λ taken has. refused.1 taken (learned taken old names chart learns has),
   )
 
   -- what is left of a text, after a judge has taken some of its lines
