@@ -46,6 +46,8 @@ silent_cluster() { cluster "$@" > /dev/null; }
 begin() { printf 'init 0 1 -\nupdate 1 5\n'; }
 trace() { timeout 60 crates/raft_trace/out/raft_trace "$@"; }
 trace_into_full_device() { trace "$@" > /dev/full; }
+trace_into_nothing() { trace "$@" >&-; }
+trace_usage() { trace "$@" | sed -n 1p; }
 start() { printf '{"event":"started","voters":[[1,2,3]]}\n'; }
 # Ten megabytes of a piece, over and over.
 ten_megabytes() { yes "$1" | tr -d '\n' | head -c 10000000; }
@@ -105,7 +107,7 @@ records() {
     local safe=" terms with a leader, 0 committed, 0 votes sent again"
     local no_event="line 2: it is no JSON with a text \`event\`"
     compare "a safe run" 0 "$(cat crates/raft_trace/stdout)" "" trace < crates/raft_trace/stdin
-    compare "no record" 2 "line 1: it has to be \`started\`, with lists of numbers \`voters\`, and a number \`first\` or none" \
+    compare "no record" 2 "line 1: it has to be \`started\`, with lists of texts or numbers \`voters\`, and a number \`first\` or none" \
         "" trace < /dev/null
     compare "a start alone" 0 "safe: 0 events, 3 voters, 0$safe" "" trace < <(start)
     compare "no voters" 1 "line 1: the cluster starts: quorums of the initial config are not known to intersect" \
@@ -122,11 +124,43 @@ records() {
         < <(start; yes '' | head -n 100000)
     compare "an index of 2^63" 1 "line 2: server 1 restarts with index 9223372036854775808: the server does not have so many entries" \
         "" trace < <(start; printf '{"event":"restarted","server":1,"index":9223372036854775808}')
-    compare "the greatest index" 2 "line 2: \`restarted\` needs the numbers \`server\` and \`index\`" "" trace \
+    compare "the greatest index" 2 "line 2: \`restarted\` needs the text or number \`server\`, and the number \`index\`" "" trace \
         < <(start; printf '{"event":"restarted","server":1,"index":18446744073709551615}')
-    compare "a record that cannot be read" 3 "" "" trace < /
+    compare "a record that cannot be read" 3 "standard input: Is a directory (os error 21)" "" trace < /
     compare "an answer that cannot be written" 3 "" "" trace_into_full_device < <(start)
-    compare "a word for raft_trace" 2 "" "$(trace --help)" trace record.jsonl < <(start)
+    files
+}
+
+# The command line of `raft_trace`.
+files() {
+    local folder word said
+    folder=$(mktemp -d)
+    said=$(cat crates/raft_trace/stdout)
+    for word in --help -h; do
+        compare "$word of raft_trace" 0 "Usage: raft_trace [FILE].." "" trace_usage "$word" < <(start)
+    done
+    compare "help after a file" 0 "Usage: raft_trace [FILE].." "" trace_usage "$folder/none" --help
+    compare "an unknown option" 2 "" "raft_trace: \`-v\` is no option; --help prints the usage" \
+        trace -v < <(start)
+    compare "a missing file" 2 "" "raft_trace: $folder/none: No such file or directory (os error 2)" \
+        trace - "$folder/none" < <(start)
+    compare "an empty word" 2 "" "raft_trace: : No such file or directory (os error 2)" trace "" < <(start)
+    compare "a directory" 3 "$folder: Is a directory (os error 21)" "" trace "$folder"
+    compare "a directory after a start" 3 "$folder: Is a directory (os error 21)" "" trace - "$folder" < <(start)
+    compare "a closed output" 3 "" "" trace_into_nothing < <(start)
+    compare "a file" 0 "$said" "" trace crates/raft_trace/stdin
+    compare "standard input among files" 0 "$said" "" trace - /dev/null < crates/raft_trace/stdin
+    # Each server has its own file, which has the events of the others in no order.
+    for word in 1 2 3 4 5; do
+        { head -n 1 crates/raft_trace/stdin; grep -E "\"(server|leader)\":$word," crates/raft_trace/stdin \
+            | grep -vE "\"server\":[^$word],"; } > "$folder/$word"
+    done
+    compare "a file of each server" 0 "$said" "" trace "$folder"/[1-5]
+    compare "a server without its file" 1 "$folder/1:3: leader 1 writes an entry in term 1: the leader is not elected in the term" \
+        "" trace "$folder"/1
+    compare "a start in another file" 2 "$folder/2:1: only the first line says how the cluster starts, and this one says another start" \
+        "" trace - "$folder"/2 < <(start)
+    rm -rf "$folder"
 }
 
 # The options of the cluster: refused ones, and the help.

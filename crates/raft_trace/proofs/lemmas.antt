@@ -3,3 +3,5 @@ pub mod FieldLemmas
 pub mod NameLemmas
 pub mod RunLemmas
 pub mod VoteLemmas
+pub mod ListLemmas
+pub mod StartLemmas

@@ -1,6 +1,23 @@
 -- The lines of an input.
-use Rattle.std.specs.Prelude.{◌≡◌, ◌==◌, ℕ, Bool, true, false, List, [], ◌∷◌, Option, Some, None, ⊤}
+use Rattle.std.specs.Prelude.{
+  ◌≡◌,
+  ◌==◌,
+  ℕ,
+  Bool,
+  true,
+  false,
+  if◌then◌else◌,
+  List,
+  [],
+  ◌∷◌,
+  Option,
+  Some,
+  None,
+  option_map,
+  ⊤,
+}
 use Rattle.std.specs.List.{slice_split}
+use Rattle.raft_trace.specs.declared.input.Lines.{Lines}
 
 -- the lines of a text: the parts between its line feeds
 abbrev pub lines : List ℕ → List (List ℕ)
@@ -12,3 +29,9 @@ TakesLine None line is_last rest = ⊤
 TakesLine (Some text) line is_last None = ⊥
 TakesLine (Some text) line true (Some rest) = (lines text ≡ line ∷ []) × (rest ≡ [])
 TakesLine (Some text) line false (Some rest) = lines text ≡ line ∷ lines rest
+
+-- the lines that are left of an input whose bytes are known: the pending one, and those after it
+abbrev pub lines_left : {B : Type 0} → (B → Option (List ℕ)) → Lines B → Option (List (List ℕ))
+lines_left remaining input =
+    let later = if input.is_last then Some [] else option_map lines (remaining input.input) in
+    if input.is_pending then option_map (λ ls. input.line.items ∷ ls) later else later

@@ -5,3 +5,4 @@ pub mod Names
 pub mod Numbers
 pub mod Run
 pub mod Votes
+pub mod Lists

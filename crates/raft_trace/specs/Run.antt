@@ -1,5 +1,5 @@
 -- A recorded run, and the trace that its lines say.
-use Rattle.std.specs.Prelude.{◌≡◌, ◌⊎◌, ℕ, true, List, [], ◌∷◌, ◌++◌, Option, Some, None, ⊤, codes}
+use Rattle.std.specs.Prelude.{◌≡◌, ◌⊎◌, ℕ, true, List, [], ◌∷◌, ◌++◌, Option, Some, codes}
 use Rattle.std.specs.Global.{Vec}
 use Rattle.std.specs.List.{All}
 use Rattle.serde_json.specs.Data.{Data}
@@ -10,11 +10,10 @@ use Rattle.raft_safety.specs.Checker.{Keeps, configs_of, kept_by}
 use Rattle.raft_safety.specs.declared.checker.violation.Violation.TheVariants.{Rule as BreaksRule}
 use Rattle.raft_safety.specs.declared.memberships.Memberships.{Memberships}
 use Rattle.raft_trace.specs.Fields.{HasConfigs, IsFirst, IsNamed}
-use Rattle.raft_trace.specs.Input.{lines}
 use Rattle.raft_trace.specs.Line.{IsVote, Says}
 use Rattle.raft_trace.specs.Names.{AreApart, Extends, IsTable, Numbering, numbering}
 use Rattle.raft_trace.specs.declared.fault.Fault.{Fault}
-use Rattle.raft_trace.specs.declared.fault.Fault.TheVariants.{Refused}
+use Rattle.raft_trace.specs.declared.fault.Fault.TheVariants.{Malformed, Refused}
 use Rattle.raft_trace.specs.Votes.{AreVotesIn}
 use Rattle.raft_trace.specs.declared.judge.Judge.{Judge}
 
@@ -61,18 +60,35 @@ SaysStart number_of line configs first =
     (d : Data) × (read line ≡ Some d) × IsNamed (codes "started") d
     × HasConfigs number_of d configs × IsFirst first d
 
--- a line is refused because it breaks a rule
+-- two lines say that the cluster starts, with the same voters and the same index of the first entry
+abbrev pub SayOneStart : List ℕ → List ℕ → Type 0
+SayOneStart line other =
+    (number_of : Numbering) × AreApart number_of
+    × ((configs : List (Vec ℕ)) × (first : ℕ) × SaysStart number_of line configs first
+    × SaysStart number_of other configs first)
+
+-- the lines after the first one, without those that say the start again. These say no event
+abbrev pub LeavesStartsOut : List ℕ → List (List ℕ) → List (List ℕ) → Type 0
+LeavesStartsOut first_line [] kept = kept ≡ []
+LeavesStartsOut first_line (line ∷ later) kept =
+    (SayOneStart first_line line × LeavesStartsOut first_line later kept)
+    ⊎ ((rest : List (List ℕ)) × (kept ≡ line ∷ rest) × LeavesStartsOut first_line later rest)
+
+-- a line is broken: it is no event, or it breaks a rule
 abbrev pub IsBroken : Fault → Type 0
+IsBroken Malformed = Unit {0}
 IsBroken (Refused (BreaksRule rule)) = Unit {0}
 IsBroken fault = ⊥
 
 module _ (tests : Memberships ℕ ℕ → Tests ℕ ℕ ℕ (Option ℕ)) where
   -- the lines after the first one are a trace that is allowed, and so it is safe. The numbers in it stand
   -- for the names that the lines have
-  pub record SafeRun (text : List ℕ) : Type 0 where
+  pub record SafeRun (run : List (List ℕ)) : Type 0 where
     pub first_line : List ℕ
     pub later : List (List ℕ)
-    pub lines_are : lines text ≡ first_line ∷ later
+    pub lines_are : run ≡ first_line ∷ later
+    pub kept : List (List ℕ)
+    pub are_kept : LeavesStartsOut first_line later kept
     pub members : Memberships ℕ ℕ
     pub first : ℕ
     pub number_of : Numbering
@@ -80,14 +96,9 @@ module _ (tests : Memberships ℕ ℕ → Tests ℕ ℕ ℕ (Option ℕ)) where
     pub starts : SaysStart number_of first_line members.initial.items first
     pub no_changes : members.held.items ≡ []
     pub trace : List (TraceEvent ℕ ℕ ℕ)
-    pub is_trace : IsTraceOf number_of first (and_lines [] later) trace
+    pub is_trace : IsTraceOf number_of first (and_lines [] kept) trace
     pub allowed : are_allowed (tests members) trace ≡ true
     pub safe : IsSafeTrace (tests members) trace
-
-  -- the text is a safe run, if it is known
-  abbrev pub IsSafeRun : Option (List ℕ) → Type 0
-  IsSafeRun None = ⊤
-  IsSafeRun (Some text) = SafeRun text
 
   -- a judge has taken these lines, the latest first
   pub record HasTaken (taken : List (List ℕ)) (judge : Judge) : Type 0 where
@@ -144,10 +155,3 @@ module _ (tests : Memberships ℕ ℕ → Tests ℕ ℕ ℕ (Option ℕ)) where
   TakesEvent e old new =
       KeepsMore
       (λ es after. (before : List (TraceEvent ℕ ℕ ℕ)) × FillsIn es before × Adds e before after) old new
-
-  -- a judge takes all lines of a text, if it is known
-  abbrev pub TakesAll : Option (List ℕ) → Judge → Judge → Type 0
-  TakesAll None old new = ⊤
-  TakesAll (Some text) old new =
-      GoesOn old new
-      × ((taken : List (List ℕ)) → HasTaken taken old → HasTaken (and_lines taken (lines text)) new)

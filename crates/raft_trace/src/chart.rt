@@ -1,8 +1,6 @@
 //! The chart of a recorded run, a row at a time.
 
 mod column;
-#[cfg(test)]
-mod tests;
 
 use crate::chart::column::Column;
 use crate::event::Act;
@@ -176,14 +174,14 @@ impl Chart {
         Ok(())
     }
 
-    /// Draws a row for a line that is refused.
-    pub fn refuse(&mut self) -> Result<(), AllocError> {
-        if !self.is_drawn {
-            return Ok(());
+    /// Writes the legend and the rows, of which the last one is of a line that is refused.
+    pub fn push_refused_to(&mut self, answer: &mut String) -> Result<(), AllocError> {
+        if self.is_drawn {
+            self.words.clear();
+            self.words.push_str("this line is refused")?;
+            self.draw()?;
         }
-        self.words.clear();
-        self.words.push_str("this line is refused")?;
-        self.draw()
+        self.push_to(answer)
     }
 
     /// Writes the legend and the rows.

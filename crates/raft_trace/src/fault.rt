@@ -15,6 +15,18 @@ pub enum Fault {
     Refused(Violation),
 }
 
+impl Fault {
+    ghost use Rattle.std.specs.Prelude.{IsTrue};
+    ghost use Rattle.raft_trace.specs.Run.{IsBroken};
+
+    /// Whether the line breaks a rule.
+    pub fn is_broken(&self) -> bool
+        ensures { IsTrue result → IsBroken self.now }
+    {
+        matches!(self, Fault::Refused(Violation::Rule(_)))
+    }
+}
+
 impl From<AllocError> for Fault {
     ghost from_gives = { λ _ f. f ≡ Refused OutOfMemory };
 

@@ -1,21 +1,120 @@
 //! The lines of an input.
-ghost use Rattle.std.specs.Prelude.{IfOk};
-ghost use Rattle.std.specs.Io.Buffered.{reader_remaining};
-ghost use Rattle.std.specs.Io.KnownBytes.{Keeps};
-ghost use Rattle.raft_trace.specs.Input.{TakesLine};
+ghost use Rattle.std.specs.Prelude.{◌≡◌, [], ◌∷◌, ℕ, List, IfOk, IsTrue, Some, option_map, true};
+ghost use Rattle.raft_trace.specs.Input.{TakesLine, lines, lines_left};
 
-use std::alloc::Global;
-use std::io::{self, BufRead, BufReader, Read};
+use crate::fault::Fault;
+use std::alloc::{AllocError, Global};
+use std::io::{self, BufRead};
 
-/// Returns an input that reads ahead.
-pub fn open<R: Read + Drop>(alloc: Global, reader: R) -> io::Result<BufReader<R>>
-    ensures { IfOk result (λ input. Keeps (R.remaining reader) (reader_remaining R.remaining input)) }
-{
-    BufReader::new(alloc, reader)
+/// The lines of an input, which are read one by one.
+#[derive(Drop)]
+pub struct Lines<B> {
+    /// The input after the lines that were read.
+    pub input: B,
+    /// The name of the input in answers, if it has one.
+    pub name: Option<String>,
+    /// The line that was read last, without its line feed.
+    pub line: Vec<u8>,
+    /// The number of this line, from 1 on.
+    pub number: u64,
+    /// Whether this line is still to be judged.
+    pub is_pending: bool,
+    /// Whether this line is the last one.
+    pub is_last: bool,
+    /// Why this line waits, if it was refused.
+    pub wait: Option<Wait>,
+}
+
+/// Why a line waits.
+#[derive(Clone, Copy)]
+pub struct Wait {
+    /// How many events were taken before the line was first refused.
+    pub since: u64,
+    /// Why the line was refused the last time.
+    pub fault: Fault,
+}
+
+impl<B: BufRead> Lines<B> {
+    /// Returns the lines of an input.
+    pub fn new(alloc: Global, input: B, name: Option<String>) -> Lines<B>
+        ensures { lines_left B.remaining result ≡ option_map lines (B.remaining input) }
+    {
+        Lines {
+            input,
+            name,
+            line: Vec::new(alloc),
+            number: 0,
+            is_pending: false,
+            is_last: false,
+            wait: None,
+        }
+    }
+
+    /// Reads the next line, unless one is pending. Returns whether one is pending then.
+    pub fn has_next(&mut self) -> io::Result<bool>
+        ensures pending { IfOk result (λ is_pending. self.new.is_pending ≡ is_pending) }
+        ensures same { IfOk result (λ _. (ls : List (List ℕ)) →
+            lines_left B.remaining self.old ≡ Some ls → lines_left B.remaining self.new ≡ Some ls) }
+    {
+        if !self.is_pending && !self.is_last {
+            self.is_last = read_line(&mut self.input, &mut self.line)?;
+            self.is_pending = true;
+            self.number = self.number.saturating_add(1);
+        }
+        Ok(self.is_pending)
+    }
+
+    /// Goes on after the pending line, which was taken.
+    pub fn pass(&mut self)
+        requires { self.old.is_pending ≡ true }
+        ensures { (ls : List (List ℕ)) →
+            lines_left B.remaining self.old ≡ Some ls → (after : List (List ℕ))
+            × (ls ≡ self.old.line.items ∷ after) × (lines_left B.remaining self.new ≡ Some after) }
+    {
+        self.is_pending = false;
+        self.wait = None;
+    }
+
+    /// Keeps the pending line, which was refused after so many events.
+    pub fn refuse(&mut self, events: u64, fault: Fault)
+        ensures { lines_left B.remaining self.new ≡ lines_left B.remaining self.old }
+    {
+        let since = match self.wait {
+            Some(wait) => wait.since,
+            None => events,
+        };
+        self.wait = Some(Wait { since, fault });
+    }
+
+    /// Whether no line is pending, and none comes.
+    pub fn is_ended(&self) -> bool
+        ensures { IsTrue result → lines_left B.remaining self.now ≡ Some [] }
+    {
+        !self.is_pending && self.is_last
+    }
+}
+
+impl<B> Lines<B> {
+    /// Writes the place of the line, such as `line 9: `, or `PATH:9: ` if the input has a name.
+    pub fn push_place(&self, answer: &mut String) -> Result<(), AllocError> {
+        match &self.name {
+            Some(name) => write!(answer, "{name}:{}: ", self.number)?,
+            None => write!(answer, "line {}: ", self.number)?,
+        }
+        Ok(())
+    }
+
+    /// Returns the name of the input in answers.
+    pub fn name(&self) -> &str {
+        match &self.name {
+            Some(name) => name.as_str(),
+            None => "standard input",
+        }
+    }
 }
 
 /// Reads a line without its line feed. Returns whether it is the last one.
-pub fn read_line<B: BufRead>(input: &mut B, line: &mut Vec<u8>) -> io::Result<bool>
+fn read_line<B: BufRead>(input: &mut B, line: &mut Vec<u8>) -> io::Result<bool>
     ensures { IfOk result (λ is_last.
         TakesLine (B.remaining input.old) line.new.items is_last (B.remaining input.new)) }
 {

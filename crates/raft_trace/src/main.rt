@@ -9,19 +9,28 @@ mod field;
 mod input;
 mod judge;
 mod names;
+mod progress;
+mod run;
+mod start;
 #[cfg(test)]
 mod tests;
 mod text;
 
+use crate::input::Lines;
+use crate::progress::Progress;
+use std::alloc::AllocError;
+use std::fs::File;
+use std::io::{BufReader, Read, Stdin};
 use std::process::ExitCode;
 use std::{env, io};
 
 /// What the program is for, and how it is called.
 const USAGE: &str = "\
-Usage: raft_trace < EVENTS
+Usage: raft_trace [--chart] [FILE]..
 
-Judges a recorded run of a Raft cluster. It reads one event a line from standard input, as JSON, and
-takes no words but --help or -h, which print this text. For example:
+Judges a recorded run of a Raft cluster. It reads one event a line, as JSON, from the files, or from
+standard input without any; - is standard input too. The events of a file are in their order, and no
+order between files is needed, so each process may write its own file. For example:
 
     {\"event\":\"started\",\"voters\":[[1,2,3]],\"first\":1}
     {\"event\":\"campaigned\",\"server\":1,\"term\":1}
@@ -33,33 +42,95 @@ takes no words but --help or -h, which print this text. For example:
     {\"event\":\"applied\",\"server\":2,\"index\":1}
     {\"event\":\"restarted\",\"server\":2,\"index\":1}
 
-The status is 0 if the run is safe, 1 at the first event that breaks a rule, 2 at a line that is no
-event, and 3 if there is no memory for an event. TRACE.md describes the events.
+The status is 0 if the run is safe, 1 if the next event of every file breaks a rule, 2 at a line that
+is no event, and 3 if a file cannot be read, or if there is no memory. --chart draws the run before
+the answer. --help and -h print this text. TRACE.md describes the events.
 ";
 
-fn main(rt: HostRuntime) -> ExitCode {
-    ExitCode::from(run(&rt).unwrap_or(3))
+/// Where lines come from.
+#[derive(Drop)]
+enum Source {
+    /// Standard input.
+    Input(Stdin),
+    /// A file.
+    File(File),
 }
 
-/// Does what the command line asks for. Returns the exit status.
-fn run(rt: &HostRuntime) -> io::Result<u8> {
-    match env::args(rt)?.nth(1) {
-        None => judge_input(rt),
-        Some(word) if word.as_str() == "--help" || word.as_str() == "-h" => {
-            rt.print(USAGE)?;
-            Ok(0)
-        }
-        Some(_) => {
-            rt.eprint(USAGE)?;
-            Ok(2)
+impl Read for Source {
+    fn read(&mut self, buf: &mut [u8]) -> io::Result<usize> {
+        match self {
+            Source::Input(input) => input.read(buf),
+            Source::File(file) => file.read(buf),
         }
     }
 }
 
-/// Judges the events of standard input, and prints the answer. Returns the exit status.
-fn judge_input(rt: &HostRuntime) -> io::Result<u8> {
+/// The lines of a source, which is read ahead.
+type SourceLines = Lines<BufReader<Source>>;
+
+fn main(rt: HostRuntime) -> ExitCode {
+    ExitCode::from(run_words(&rt).unwrap_or(3))
+}
+
+/// Does what the command line asks for. Returns the exit status.
+fn run_words(rt: &HostRuntime) -> io::Result<u8> {
+    let words: Vec<String> = env::args(rt)?.skip(1).collect(rt.alloc())?;
+    let mut is_drawn = false;
+    for word in &words {
+        match word.as_str() {
+            "--help" | "-h" => {
+                rt.print(USAGE)?;
+                return Ok(0);
+            }
+            "--chart" => is_drawn = true,
+            "-" => {}
+            text if text.starts_with('-') => {
+                let _ = eprintln!(rt; "raft_trace: `{text}` is no option; --help prints the usage");
+                return Ok(2);
+            }
+            _ => {}
+        }
+    }
+    let mut lists = Vec::new(rt.alloc());
+    for word in words {
+        if word.as_str() == "--chart" {
+            continue;
+        }
+        match source_of(rt, word.as_str()) {
+            Ok(source) => lists.push(lines_of(rt, source, Some(word))?)?,
+            Err(error) => {
+                let _ = eprintln!(rt; "raft_trace: {}: {error}", word.as_str());
+                return Ok(2);
+            }
+        }
+    }
+    if lists.is_empty() {
+        lists.push(lines_of(rt, Source::Input(rt.stdin()), None)?)?;
+    }
+    judge_lists(rt, &mut lists, is_drawn)
+}
+
+/// Opens the source that a word of the command line names.
+fn source_of(rt: &HostRuntime, word: &str) -> io::Result<Source> {
+    if word == "-" {
+        Ok(Source::Input(rt.stdin()))
+    } else {
+        Ok(Source::File(File::open(rt, word)?))
+    }
+}
+
+/// Returns the lines of a source.
+fn lines_of(rt: &HostRuntime, source: Source, name: Option<String>) -> io::Result<SourceLines> {
+    let input = BufReader::new(rt.alloc(), source)?;
+    Ok(Lines::new(rt.alloc(), input, name))
+}
+
+/// Judges lists of lines, and prints the answer, after a chart if that is wanted. Returns the exit
+/// status.
+fn judge_lists(rt: &HostRuntime, lists: &mut [SourceLines], is_drawn: bool) -> io::Result<u8> {
     let mut answer = String::new(rt.alloc());
-    let status = judge::run(rt.alloc(), rt.reader(), &mut answer);
+    let progress = Progress::on(rt.stderr());
+    let status = run::run(rt.alloc(), lists, progress, is_drawn, &mut answer);
     rt.print(answer.as_str())?;
     Ok(status)
 }

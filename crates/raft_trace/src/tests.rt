@@ -1,8 +1,11 @@
 //! Answers to recorded runs.
 
+mod chart;
 mod names;
 
-use crate::judge::run;
+use crate::input::Lines;
+use crate::progress::Progress;
+use crate::run::run;
 use std::alloc::{AllocError, Global};
 use std::test::Fail;
 
@@ -109,16 +112,167 @@ const ROWS: [(&str, u8, &str); 17] = [
     (
         r#"{"event":"started","voters":[[1,2,3]]}"#,
         2,
-        "line 9: only the first line is `started`\n",
+        "line 9: only the first line says how the cluster starts, and this one says another start\n",
     ),
 ];
+
+/// Returns the status of a list of lines, and the answer.
+fn judged(alloc: Global, text: &str) -> Result<(u8, String), AllocError> {
+    let mut said = String::new(alloc);
+    let mut lists = Vec::new(alloc);
+    lists.push(Lines::new(alloc, text.as_bytes(), None))?;
+    let status = run(alloc, &mut lists, Progress::silent(), false, &mut said);
+    Ok((status, said))
+}
 
 /// Whether this is the status and the answer to lines after those of `LED`.
 fn is_answered(alloc: Global, row: &str, status: u8, answer: &str) -> Result<bool, AllocError> {
     let mut text = String::from_str(alloc, LED)?;
     text.push_str(row)?;
+    let (given, said) = judged(alloc, text.as_str())?;
+    Ok(given == status && said.as_str() == answer)
+}
+
+/// The names of lists, in their order.
+const NAMES: [&str; 3] = ["a", "b", "c"];
+
+/// Lists of lines, which `--` separates, and the status and the answer. Server 1 leads in term 1 by the
+/// vote of server 2.
+const LISTS: [(&str, u8, &str); 10] = [
+    // Each server has its own list.
+    (
+        r#"{"event":"started","voters":[[1,2,3]],"first":2}
+{"event":"campaigned","server":1,"term":1}
+{"event":"wrote","leader":1,"term":1,"index":2,"content":7}
+{"event":"appended","server":1,"term":1,"leader":1,"prev":1,"entries":[[1,7]]}
+{"event":"acked","server":1,"term":1,"leader":1,"index":2}
+{"event":"committed","leader":1,"term":1,"index":2}
+{"event":"applied","server":1,"index":2}
+--
+{"event":"started","voters":[[1,2,3]],"first":2}
+{"event":"granted","server":2,"term":1,"candidate":1}
+{"event":"appended","server":2,"term":1,"leader":1,"prev":1,"entries":[[1,7]]}
+{"event":"acked","server":2,"term":1,"leader":1,"index":2}
+--
+{"event":"started","voters":[[1,2,3]],"first":2}
+{"event":"campaigned","server":3,"term":2}
+"#,
+        0,
+        "safe: 10 events, 3 voters, 1 terms with a leader, 1 committed, 0 votes sent again\n",
+    ),
+    // The second list waits for a leader of which no line says anything, and the third one for the second.
+    (
+        r#"{"event":"started","voters":[[1,2,3]]}
+{"event":"campaigned","server":1,"term":1}
+{"event":"wrote","leader":1,"term":1,"content":7}
+{"event":"committed","leader":1,"term":1,"index":1}
+--
+{"event":"granted","server":2,"term":1,"candidate":1}
+{"event":"acked","server":2,"term":4,"leader":3,"index":1}
+{"event":"acked","server":2,"term":1,"leader":1,"index":1}
+--
+{"event":"campaigned","server":3,"term":2}
+"#,
+        1,
+        "b:2: server 2 acknowledges index 1 to 3 in term 4: the leader is not elected in the term\n\
+            a:4: leader 1 commits index 1 in term 1: no quorum has acknowledged the entries\n",
+    ),
+    // No line of a list comes before an earlier one.
+    (
+        r#"{"event":"started","voters":[[1]]}
+--
+{"event":"granted","server":2,"term":1,"candidate":1}
+{"event":"campaigned","server":1,"term":1}
+"#,
+        1,
+        "b:1: server 2 votes in term 1 for 1: the candidate has not campaigned in the term\n",
+    ),
+    // The last line of a list is judged.
+    (
+        r#"{"event":"started","voters":[[1]]}
+--
+{"event":"campaigned","server":1,"term":1}
+{"event":"applied","server":1,"index":1}"#,
+        1,
+        "b:2: server 1 applies up to index 1: the entries are not known to be committed\n",
+    ),
+    // A line that is no event ends the run, whatever other lists have.
+    (
+        r#"{"event":"started","voters":[[1]]}
+{"event":"applied","server":1,"index":1}
+--
+{"event":"campaigned","server":1,"term":1}
+{"event":"elected"}
+"#,
+        2,
+        "b:2: there is no event of this name\n",
+    ),
+    // A process that restarts says the start again.
+    (
+        r#"{"event":"started","voters":[[1,2],[3]]}
+{"event":"started","voters":[[1,2],[3]],"first":1,"pid":7}
+--
+{"event":"campaigned","server":1,"term":1}
+{"first":1,"voters":[[1,2],[3]],"event":"started"}
+"#,
+        0,
+        "safe: 1 events, 3 voters, 0 terms with a leader, 0 committed, 0 votes sent again\n",
+    ),
+    (
+        r#"{"event":"started","voters":[[1,2],[3]]}
+--
+{"event":"started","voters":[[1,2],[3]],"first":2}
+"#,
+        2,
+        "b:1: only the first line says how the cluster starts, and this one says another start\n",
+    ),
+    (
+        r#"{"event":"started","voters":[[1,2],[3]]}
+{"event":"started","voters":[[1,2,3]]}
+"#,
+        2,
+        "a:2: only the first line says how the cluster starts, and this one says another start\n",
+    ),
+    // The first line is one of the first list.
+    (
+        r#"{"event":"campaigned","server":1,"term":1}
+--
+{"event":"started","voters":[[1]]}
+"#,
+        2,
+        "a:1: it has to be `started`, with lists of texts or numbers `voters`, and a number `first` or none\n",
+    ),
+    // Lists may be empty.
+    (
+        r#"{"event":"started","voters":[[1]]}
+--
+--
+"#,
+        0,
+        "safe: 0 events, 1 voters, 0 terms with a leader, 0 committed, 0 votes sent again\n",
+    ),
+];
+
+/// Whether this is the status and the answer to lists of lines.
+fn are_answered(alloc: Global, row: &str, status: u8, answer: &str) -> Result<bool, AllocError> {
     let mut said = String::new(alloc);
-    Ok(run(alloc, text.as_str().as_bytes(), &mut said) == status && said.as_str() == answer)
+    let mut lists = Vec::new(alloc);
+    for (i, text) in row.split("--\n").enumerate() {
+        let name = String::from_str(alloc, NAMES.get(i).copied().unwrap_or("more"))?;
+        lists.push(Lines::new(alloc, text.as_bytes(), Some(name)))?;
+    }
+    Ok(
+        run(alloc, &mut lists, Progress::silent(), false, &mut said) == status
+            && said.as_str() == answer,
+    )
+}
+
+#[test]
+fn answers_to_lists(rt: HostRuntime) -> Result<(), Fail> {
+    for (row, status, answer) in LISTS {
+        assert!(rt; are_answered(rt.alloc(), row, status, answer)?, "{row}");
+    }
+    Ok(())
 }
 
 #[test]

@@ -22,21 +22,20 @@ pub fn push_safe(answer: &mut String, counts: &Counts) -> Result<(), AllocError>
     Ok(())
 }
 
-/// Writes why the line with a number is not taken. Returns the exit status.
+/// Writes why a line is not taken, which may be the first line of the run. Returns the exit status.
 pub fn push_fault(
     alloc: Global,
     answer: &mut String,
-    number: u64,
     line: &[u8],
+    is_first: bool,
     fault: Fault,
 ) -> Result<u8, AllocError>
     ensures { IfOk result (λ status. 0 < status) }
 {
-    write!(answer, "line {number}: ")?;
     let value = value_of(alloc, line)?.unwrap_or(Value::Null);
     match fault {
         Fault::Malformed => {
-            writeln!(answer, "{}", reason(number, &value))?;
+            writeln!(answer, "{}", reason(is_first, &value))?;
             Ok(2)
         }
         Fault::Refused(Violation::OutOfMemory) => {
@@ -51,14 +50,16 @@ pub fn push_fault(
     }
 }
 
-/// Returns why the value of the line with a number is no event.
-fn reason(number: u64, value: &Value) -> &'static str {
-    if number == 1 {
+/// Returns why the value of a line is no event.
+fn reason(is_first: bool, value: &Value) -> &'static str {
+    if is_first {
         return "it has to be `started`, with lists of texts or numbers `voters`, and a number `first` or none";
     }
     match event_name(value).unwrap_or("") {
         "" => "it is no JSON with a text `event`",
-        "started" => "only the first line is `started`",
+        "started" => {
+            "only the first line says how the cluster starts, and this one says another start"
+        }
         "campaigned" => "`campaigned` needs the text or number `server`, and the number `term`",
         "granted" => {
             "`granted` needs the texts or numbers `server` and `candidate`, and the number `term`"

@@ -1,22 +1,19 @@
 -- Lines that a judge takes.
-use Rattle.std.specs.Prelude.{◌≡◌, ℕ, Bool, true, false, List, [], ◌∷◌, ◌++◌, Option, Some, None, Result, Ok, Err, IfErr, ⊤}
+use Rattle.std.specs.Prelude.{◌≡◌, ℕ, List, [], ◌∷◌, ◌++◌, Option, Some, Result, Ok, Err, IfErr}
 use Rattle.std.proofs.Common.{refl, sym, ap, subst, ◌∙◌, inl, inr, append_assoc}
 use Rattle.std.proofs.lemmas.List.Elements.{All-append, All-nil}
-use Rattle.std.specs.Global.{Vec}
-use Rattle.std.specs.Io.KnownBytes.{Keeps}
 use Rattle.serde_json.specs.Data.{Data}
 use Rattle.serde_json.specs.Read.{read}
-use Rattle.raft_safety.specs.Trace.{AreExact, Tests, TracesAreExecutions, TraceEvent}
+use Rattle.raft_safety.specs.Trace.{AreExact, Tests, TraceEvent}
 use Rattle.raft_safety.specs.Checker.{Keeps as KeepsEvents, configs_of, kept_by}
 use Rattle.raft_safety.specs.declared.memberships.Memberships.{Memberships}
-use Rattle.raft_trace.specs.Input.{TakesLine, lines}
 use Rattle.raft_trace.specs.Line.{Says}
-use Rattle.raft_trace.specs.Run.{Fills, FillsIn, GoesOn, HasTaken, IsFilledIn, IsSafeRun, IsStarted, IsTraceOf, Refuses, SafeRun, SaysStart, Takes, TakesAll, TakesEvent, and_lines}
+use Rattle.raft_trace.specs.Run.{Fills, FillsIn, HasTaken, IsFilledIn, IsStarted, IsTraceOf, Refuses, SaysStart, Takes, TakesEvent}
 use Rattle.raft_trace.specs.Names.{Extends, IsTable, Learns, Numbering, numbering}
 use Rattle.raft_trace.specs.declared.chart.Chart.{Chart}
 use Rattle.raft_trace.specs.declared.judge.Judge.{Judge}
 use Rattle.raft_trace.specs.declared.names.Names.{Names}
-use Rattle.raft_trace.proofs.lemmas.NameLemmas.{start_more, trace_more}
+use Rattle.raft_trace.proofs.lemmas.NameLemmas.{trace_more}
 use Rattle.raft_trace.proofs.lemmas.VoteLemmas.{no_votes_in}
 
 -- what holds of each error holds of the one that is returned, if there is one
@@ -169,111 +166,3 @@ module _ (tests : Memberships ℕ ℕ → Tests ℕ ℕ ℕ (Option ℕ)) where
     (refused.0.0, refused.0.1, λ a n is. refused.0.2 a n (learns.0 a n is)),
     λ taken has. refused.1 taken (learned taken old names chart learns has),
   )
-
-  -- what is left of a text, after a judge has taken some of its lines
-  abbrev pub HasPassed : Option (List ℕ) → Judge → Option (List ℕ) → Judge → Type 0
-  HasPassed None old rest now = ⊤
-  HasPassed (Some text) old None now = ⊥
-  HasPassed (Some text) old (Some rest) now =
-      GoesOn tests old now
-      × ((taken : List (List ℕ)) → HasTaken tests taken old
-      → (taken_now : List (List ℕ)) × HasTaken tests taken_now now
-      × (and_lines taken (lines text) ≡ and_lines taken_now (lines rest)))
-
-  pub passed_none : (rest : Option (List ℕ)) (judge : Judge) → HasPassed rest judge rest judge
-  passed_none None judge = tt
-  passed_none (Some text) judge = ((refl, refl, λ a n is. is), λ taken has. (taken, has, refl))
-
-  pub passed_more : (text rest next : Option (List ℕ)) (old now new : Judge) (line : List ℕ) (is_last : Bool)
-      → is_last ≡ false → HasPassed text old rest now → TakesLine rest line is_last next → Takes tests line now new
-      → HasPassed text old next new
-  passed_more None rest next old now new line is_last not_last passed reads takes = tt
-  passed_more (Some text) None next old now new line is_last not_last passed reads takes = absurd passed
-  passed_more (Some text) (Some rest) None old now new line is_last not_last passed reads takes = absurd reads
-  passed_more (Some text) (Some rest) (Some next) old now new line is_last not_last passed reads takes =
-      let cut : lines rest ≡ line ∷ lines next =
-      subst (λ (b : Bool). TakesLine (Some rest) line b (Some next)) not_last reads in (
-        (takes.0.0 ∙ passed.0.0, takes.0.1 ∙ passed.0.1, λ a n is. takes.0.2 a n (passed.0.2 a n is)),
-        λ taken has.
-            let so_far = passed.1 taken has in (
-              line ∷ so_far.0,
-              takes.1 so_far.0 so_far.1,
-              so_far.2 ∙ ap (and_lines so_far.0) cut,
-            ),
-      )
-
-  pub passed_last : (text rest next : Option (List ℕ)) (old now new : Judge) (line : List ℕ) (is_last : Bool)
-      → is_last ≡ true → HasPassed text old rest now → TakesLine rest line is_last next → Takes tests line now new
-      → TakesAll tests text old new
-  passed_last None rest next old now new line is_last last passed reads takes = tt
-  passed_last (Some text) None next old now new line is_last last passed reads takes = absurd passed
-  passed_last (Some text) (Some rest) None old now new line is_last last passed reads takes = absurd reads
-  passed_last (Some text) (Some rest) (Some next) old now new line is_last last passed reads takes =
-      let cut : lines rest ≡ line ∷ [] =
-      (subst (λ (b : Bool). TakesLine (Some rest) line b (Some next)) last reads).0 in (
-        (takes.0.0 ∙ passed.0.0, takes.0.1 ∙ passed.0.1, λ a n is. takes.0.2 a n (passed.0.2 a n is)),
-        λ taken has.
-            let so_far = passed.1 taken has in
-            let all : and_lines taken (lines text) ≡ line ∷ so_far.0 = so_far.2 ∙ ap (and_lines so_far.0) cut in
-            subst (λ (ls : List (List ℕ)). HasTaken tests ls new) (sym all) (takes.1 so_far.0 so_far.1),
-      )
-
-  -- a judge that has taken all lines after the first one
-  is_safe : ((m : Memberships ℕ ℕ) (t u : ℕ) → (tests m).rank t ≡ (tests m).rank u → t ≡ u)
-      → TracesAreExecutions ℕ ℕ ℕ (Option ℕ) → (text line : List ℕ) (later : List (List ℕ)) (old new : Judge)
-      → lines text ≡ line ∷ later
-      → SaysStart (numbering old.names) line (configs_of old.checker).initial.items old.first → GoesOn tests old new
-      → HasTaken tests (and_lines [] later) new → SafeRun tests text
-  is_safe ranks law text line later old new is says goes has =
-      let configs = (configs_of old.checker).initial.items in
-      let starts : SaysStart (numbering new.names) line (configs_of new.checker).initial.items new.first =
-      subst (λ (v : Vec (Vec ℕ)). SaysStart (numbering new.names) line v.items new.first) (sym goes.0)
-      (subst (λ (n : ℕ). SaysStart (numbering new.names) line configs n) (sym goes.1)
-      (start_more (numbering old.names) (numbering new.names) goes.2 line configs old.first says)) in
-      record {
-        first_line = line;
-        later = later;
-        lines_are = is;
-        members = configs_of new.checker;
-        first = new.first;
-        number_of = numbering new.names;
-        apart = has.table.apart;
-        starts = starts;
-        no_changes = has.no_changes;
-        trace = has.trace;
-        is_trace = has.is_trace;
-        allowed = has.keeps.seen.allowed;
-        safe = law (tests (configs_of new.checker)) has.exact has.trace
-            (λ t u in_t in_u e. ranks (configs_of new.checker) t u e) has.keeps.seen.allowed;
-      }
-
-  -- the first line is the only one
-  pub safe_alone : ((m : Memberships ℕ ℕ) (t u : ℕ) → (tests m).rank t ≡ (tests m).rank u → t ≡ u)
-      → TracesAreExecutions ℕ ℕ ℕ (Option ℕ) → (text next : Option (List ℕ)) (line : List ℕ) (is_last : Bool)
-      (judge : Judge) → is_last ≡ true → TakesLine text line is_last next → IsStarted tests line judge
-      → IsSafeRun tests text
-  safe_alone ranks law None next line is_last judge last reads start = tt
-  safe_alone ranks law (Some text) None line is_last judge last reads start = absurd reads
-  safe_alone ranks law (Some text) (Some next) line is_last judge last reads start =
-      let cut : lines text ≡ line ∷ [] =
-      (subst (λ (b : Bool). TakesLine (Some text) line b (Some next)) last reads).0 in
-      is_safe ranks law text line [] judge judge cut start.0 (refl, refl, λ a n is. is) start.1
-
-  -- all lines after the first one are taken
-  pub safe_all : ((m : Memberships ℕ ℕ) (t u : ℕ) → (tests m).rank t ≡ (tests m).rank u → t ≡ u)
-      → TracesAreExecutions ℕ ℕ ℕ (Option ℕ) → (text next : Option (List ℕ)) (line : List ℕ) (is_last : Bool)
-      (old new : Judge) → is_last ≡ false → TakesLine text line is_last next → IsStarted tests line old
-      → TakesAll tests next old new → IsSafeRun tests text
-  safe_all ranks law None next line is_last old new not_last reads start takes = tt
-  safe_all ranks law (Some text) None line is_last old new not_last reads start takes = absurd reads
-  safe_all ranks law (Some text) (Some next) line is_last old new not_last reads start takes =
-      let cut : lines text ≡ line ∷ lines next =
-      subst (λ (b : Bool). TakesLine (Some text) line b (Some next)) not_last reads in
-      is_safe ranks law text line (lines next) old new cut start.0 takes.0 (takes.1 [] start.1)
-
-  -- a run is safe if it is so as it is read
-  pub kept_safe : (text read_text : Option (List ℕ)) → Keeps text read_text → IsSafeRun tests read_text
-      → IsSafeRun tests text
-  kept_safe None read_text kept safe = tt
-  kept_safe (Some text) None kept safe = absurd kept
-  kept_safe (Some text) (Some other) kept safe = subst (λ (t : List ℕ). SafeRun tests t) kept safe

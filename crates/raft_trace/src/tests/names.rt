@@ -1,6 +1,6 @@
 //! Answers to runs whose servers and contents are texts or numbers.
 
-use crate::judge::run;
+use super::judged;
 use std::alloc::{AllocError, Global};
 use std::test::Fail;
 
@@ -89,8 +89,8 @@ const RUNS: [(&str, u8, &str); 9] = [
 
 /// Whether this is the status of a run, and the answer begins so.
 fn is_answered(alloc: Global, text: &str, status: u8, answer: &str) -> Result<bool, AllocError> {
-    let mut said = String::new(alloc);
-    Ok(run(alloc, text.as_bytes(), &mut said) == status && said.as_str().starts_with(answer))
+    let (given, said) = judged(alloc, text)?;
+    Ok(given == status && said.as_str().starts_with(answer))
 }
 
 #[test]

@@ -1,0 +1,50 @@
+//! The line that says how the cluster starts.
+ghost use Rattle.std.specs.Prelude.{IfOk, IfSome, IsTrue, OnOk};
+ghost use Rattle.raft_trace.specs.Names.{Learns, numbering};
+ghost use Rattle.raft_trace.specs.Run.{SayOneStart, SaysStart};
+
+use crate::field::{configs, first_index, is_named, value_of};
+use crate::names::Names;
+use std::alloc::{AllocError, Global};
+
+/// The configs of the voters, and the index of the first entry.
+pub type Start = (Vec<Vec<u64>>, u64);
+
+/// Returns how the cluster starts, if a line says so. The voters get numbers.
+pub fn start_of(alloc: Global, names: &mut Names, line: &[u8]) -> Result<Option<Start>, AllocError>
+    ensures says { IfOk result (λ o. IfSome o (λ s.
+        SaysStart (numbering names.new) line.now s.0.items s.1)) }
+    ensures learns { OnOk result (Learns names.old names.new) }
+{
+    let Some(value) = value_of(alloc, line)? else {
+        return Ok(None);
+    };
+    if !is_named(&value, "started") {
+        return Ok(None);
+    }
+    let Some(first) = first_index(&value) else {
+        return Ok(None);
+    };
+    names.learn(&value)?;
+    match configs(alloc, names, &value)? {
+        Some(voters) => Ok(Some((voters, first))),
+        None => Ok(None),
+    }
+}
+
+/// Whether two lines say that the cluster starts, with the same configs and the same first index.
+pub fn say_one_start(alloc: Global, line: &[u8], other: &[u8]) -> Result<bool, AllocError>
+    ensures { IfOk result (λ say. IsTrue say → SayOneStart line.now other.now) }
+{
+    let mut names = Names::new(alloc);
+    let Some((configs, first)) = start_of(alloc, &mut names, line)? else {
+        return Ok(false);
+    };
+    let Some((others, other_first)) = start_of(alloc, &mut names, other)? else {
+        return Ok(false);
+    };
+    if first != other_first {
+        return Ok(false);
+    }
+    Ok(configs == others)
+}
