@@ -24,10 +24,10 @@ const WORDS: usize = 32;
 /// What the signs mean.
 const LEGEND: &str = "\
 A row has the number of its line, or of its event if there are several files, then a column for each
-server, and what happens. A server has a role (L leader, C candidate, F follower), a term modulo 100,
-and the part of its log around the last commit: a letter for each entry, by the leader that has
-written it. A server leads once it has written an entry. Left of | is what it has applied, or has
-committed as the leader.
+server, and what happens. A server has a role (L leader, C candidate, F follower), a term modulo
+100, and the part of its log around the last commit: a letter for each entry, by the leader that has
+written it. A server leads once it has written an entry in its term. Left of | is what it has
+applied, or has committed as the leader.
 ";
 
 /// What the legend says if a server has no column.
