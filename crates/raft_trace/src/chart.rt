@@ -178,7 +178,7 @@ impl Chart {
     pub fn push_refused_to(&mut self, answer: &mut String) -> Result<(), AllocError> {
         if self.is_drawn {
             self.words.clear();
-            self.words.push_str("this line is refused")?;
+            self.words.push_str("the run is refused here")?;
             self.draw()?;
         }
         self.push_to(answer)

@@ -39,7 +39,7 @@ number  n1          n2          10.0.0.3..  what happens
     15  L1  |aa     L2  |ab     F2  |ab     10.0.0.3.. installs a snapshot
     17  L1  |aa     L2  ab|     F2  |ab     n2 commits index 2
     18  F2  |ab     L2  ab|     F2  |ab     n1 truncates 1 of 2
-    20  F2  |ab     L2  ab|     F2  ab|     this line is refused
+    20  F2  |ab     L2  ab|     F2  ab|     the run is refused here
 ",
     ),
     // The eighth server has no column.
