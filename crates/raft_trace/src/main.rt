@@ -75,25 +75,38 @@ fn main(rt: HostRuntime) -> ExitCode {
 /// Does what the command line asks for. Returns the exit status.
 fn run_words(rt: &HostRuntime) -> io::Result<u8> {
     let words: Vec<String> = env::args(rt)?.skip(1).collect(rt.alloc())?;
-    let mut is_drawn = false;
-    for word in &words {
-        match word.as_str() {
-            "--help" | "-h" => {
-                rt.print(USAGE)?;
-                return Ok(0);
-            }
-            "--chart" => is_drawn = true,
-            "-" => {}
-            text if text.starts_with('-') => {
-                let _ = eprintln!(rt; "raft_trace: `{text}` is no option; --help prints the usage");
-                return Ok(2);
-            }
-            _ => {}
+    match option_in(&words) {
+        None => judge_files(rt, words),
+        Some("--help" | "-h") => {
+            rt.print(USAGE)?;
+            Ok(0)
+        }
+        Some(option) => {
+            // The status says enough if standard error is closed.
+            let _ = eprintln!(rt; "raft_trace: `{option}` is no option; --help prints the usage");
+            Ok(2)
         }
     }
+}
+
+/// Returns the first word that is an option, but not `--chart`. A hyphen alone is none.
+fn option_in(words: &[String]) -> Option<&str> {
+    for word in words {
+        let text = word.as_str();
+        if text != "-" && text != "--chart" && text.starts_with('-') {
+            return Some(text);
+        }
+    }
+    None
+}
+
+/// Judges the files that words name, or standard input if there is none. Returns the exit status.
+fn judge_files(rt: &HostRuntime, words: Vec<String>) -> io::Result<u8> {
     let mut lists = Vec::new(rt.alloc());
+    let mut is_drawn = false;
     for word in words {
         if word.as_str() == "--chart" {
+            is_drawn = true;
             continue;
         }
         match source_of(rt, word.as_str()) {
