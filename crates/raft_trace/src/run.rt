@@ -6,6 +6,7 @@ ghost use Rattle.raft_trace.specs.Lists.{AreSafe, Begins, Judges, JudgesNext, Ju
 ghost use Rattle.raft_trace.specs.Numbers.{number_tests};
 ghost use Rattle.raft_trace.specs.Run.{IsBroken, SafeRun};
 
+use crate::chart::Chart;
 use crate::fault::Fault;
 use crate::input::Lines;
 use crate::judge::{Judge, start};
@@ -79,22 +80,12 @@ fn judge_lists<B: BufRead>(
     traces_are_executions::<u64, u64, u64, Option<u64>>();
     let (first_line, mut judge) = match begin(alloc, lists, is_drawn) {
         Ok(begun) => begun,
-        Err(stop) => return push_stop(alloc, answer, lists, 0, stop),
+        Err(stop) => return push_stop(alloc, answer, None, lists, 0, stop),
     };
     match take_lines(alloc, &first_line, lists, &mut judge, progress) {
-        Ok(()) => {}
-        Err((at, stop)) => {
-            judge.chart.push_to(answer)?;
-            return push_stop(alloc, answer, lists, at, stop);
-        }
+        Ok(()) => push_verdict(alloc, answer, lists, &mut judge),
+        Err((at, stop)) => push_stop(alloc, answer, Some(&judge.chart), lists, at, stop),
     }
-    if !are_ended(lists) {
-        judge.chart.push_refused_to(answer)?;
-        return push_waiting(alloc, answer, lists);
-    }
-    judge.chart.push_to(answer)?;
-    push_safe(answer, &judge.counts)?;
-    Ok(0)
 }
 
 /// Takes the first line of the first list. Returns this line, and the judge of a cluster that starts as
@@ -234,6 +225,26 @@ fn are_ended<B: BufRead>(lists: &[Lines<B>]) -> bool
     true
 }
 
+/// Writes the chart, and then that the run is safe if all lists are at their end, or the lines that they
+/// wait with. Returns the exit status.
+fn push_verdict<B: BufRead>(
+    alloc: Global,
+    answer: &mut String,
+    lists: &[Lines<B>],
+    judge: &mut Judge,
+) -> Result<u8, AllocError>
+    ensures { IfOk result (λ status. status ≡ 0 →
+        All (λ list. lines_left B.remaining list ≡ Some []) lists.now) }
+{
+    if !are_ended(lists) {
+        judge.chart.push_refused_to(answer)?;
+        return push_waiting(alloc, answer, lists);
+    }
+    judge.chart.push_to(answer)?;
+    push_safe(answer, &judge.counts)?;
+    Ok(0)
+}
+
 /// Writes the line that each list waits with, and why. The list that waits longest comes first.
 /// Returns the exit status.
 fn push_waiting<B>(alloc: Global, answer: &mut String, lists: &[Lines<B>]) -> Result<u8, AllocError>
@@ -277,10 +288,12 @@ fn push_wait<B>(alloc: Global, answer: &mut String, list: &Lines<B>) -> Result<(
     Ok(())
 }
 
-/// Writes why the list at a place is judged no further. Returns the exit status.
+/// Writes the chart, if there is one, and why the list at a place is judged no further. Returns the exit
+/// status.
 fn push_stop<B>(
     alloc: Global,
     answer: &mut String,
+    chart: Option<&Chart>,
     lists: &[Lines<B>],
     at: usize,
     stop: Stop,
@@ -290,6 +303,9 @@ fn push_stop<B>(
     let Some(list) = lists.get(at) else {
         return Ok(3);
     };
+    if let Some(chart) = chart {
+        chart.push_to(answer)?;
+    }
     match stop {
         Stop::Line(fault) => {
             list.push_place(answer)?;
