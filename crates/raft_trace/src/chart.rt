@@ -4,7 +4,7 @@ mod column;
 
 use crate::chart::column::Column;
 use crate::event::Act;
-use crate::field::{is_named, value_of};
+use crate::field::{event_name, is_named, value_of};
 use raft_safety::entry::Entry;
 use raft_safety::event::Event;
 use serde_json::Value;
@@ -138,8 +138,12 @@ impl Chart {
         }
         self.number = number;
         self.is_snapshot = is_named(line, "appended") && line.get("entries").is_none();
+        let field = match event_name(line).unwrap_or("") {
+            "wrote" | "committed" => "leader",
+            _ => "server",
+        };
         self.name.clear();
-        if let Some(name) = line.get("server").or(line.get("leader")) {
+        if let Some(name) = line.get(field) {
             push_name(self.alloc, &mut self.name, name)?;
         }
         self.members.clear();
