@@ -69,10 +69,16 @@ pub struct Chart {
 }
 
 impl Chart {
-    /// Returns a chart with no row, of a cluster whose first entry has this index. If the chart is not
-    /// wanted, it stays empty.
-    fn new(alloc: Global, first: u64, is_drawn: bool) -> Chart {
-        Chart {
+    /// Returns the chart of a cluster that starts as a line says, with a column for each voter of these
+    /// configs. If the chart is not wanted, it stays empty.
+    pub fn start(
+        alloc: Global,
+        line: &[u8],
+        first: u64,
+        configs: &[Vec<u64>],
+        is_drawn: bool,
+    ) -> Result<Chart, AllocError> {
+        let mut chart = Chart {
             is_drawn,
             alloc,
             first,
@@ -88,19 +94,7 @@ impl Chart {
             words: String::new(alloc),
             headed: 0,
             rows: String::new(alloc),
-        }
-    }
-
-    /// Returns the chart of a cluster that starts as a line says, with a column for each voter of these
-    /// configs. If the chart is not wanted, it stays empty.
-    pub fn start(
-        alloc: Global,
-        line: &[u8],
-        first: u64,
-        configs: &[Vec<u64>],
-        is_drawn: bool,
-    ) -> Result<Chart, AllocError> {
-        let mut chart = Chart::new(alloc, first, is_drawn);
+        };
         if is_drawn && let Some(value) = value_of(alloc, line)? {
             chart.add_voters(configs, &value)?;
         }
