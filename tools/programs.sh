@@ -104,31 +104,32 @@ statuses() {
 
 # The answers of `raft_trace`, also to odd input.
 records() {
-    local safe=" terms with a leader, 0 committed, 0 votes sent again"
+    local safe="3 servers, 0 terms with a leader, 0 committed, 0 membership changes"
     local no_event="line 2: it is no JSON with a text \`event\`"
     compare "a safe run" 0 "$(cat crates/raft_trace/stdout)" "" trace < crates/raft_trace/stdin
     compare "a chart" 0 "$(cat crates/raft_trace/chart.stdout)" "" trace --chart < crates/raft_trace/stdin
     compare "no record" 2 "line 1: it has to be \`started\`, with lists of texts or numbers \`voters\`, and a number \`first\` or none" \
         "" trace < /dev/null
-    compare "a start alone" 0 "safe: 0 events, 3 voters, 0$safe" "" trace < <(start)
+    compare "a start alone" 0 "safe: 0 events, $safe" "" trace < <(start)
     compare "no voters" 1 "line 1: the cluster starts: quorums of the initial config are not known to intersect" \
         "" trace < <(printf '{"event":"started","voters":[]}')
     compare "brackets" 2 "$no_event" "" trace < <(start; ten_megabytes '[')
     compare "zero bytes in a record" 2 "$no_event" "" trace < <(start; head -c 10000000 /dev/zero)
     compare "no UTF-8" 2 "$no_event" "" trace < <(start; printf '\xff\n')
     compare "the end inside an event" 2 "$no_event" "" trace < <(start; printf '{"event":"camp')
-    compare "a long field" 0 "safe: 1 events, 3 voters, 0$safe" "" trace \
+    compare "a long field" 0 "safe: 1 event, $safe" "" trace \
         < <(start; printf '{"x":"'; ten_megabytes a; printf '","event":"campaigned","server":1,"term":1}\n')
-    compare "carriage returns" 0 "safe: 1 events, 3 voters, 0$safe" "" trace \
+    compare "carriage returns" 0 "safe: 1 event, $safe" "" trace \
         < <(start; printf '{"event":"campaigned","server":1,"term":1}\r\n')
-    compare "empty lines in a record" 0 "safe: 0 events, 3 voters, 0$safe" "" trace \
+    compare "empty lines in a record" 0 "safe: 0 events, $safe" "" trace \
         < <(start; yes '' | head -n 100000)
     compare "an index of 2^63" 1 "line 2: server 1 restarts with index 9223372036854775808: the server does not have so many entries" \
         "" trace < <(start; printf '{"event":"restarted","server":1,"index":9223372036854775808}')
     compare "the greatest index" 2 "line 2: \`restarted\` needs the text or number \`server\`, and the number \`index\`" "" trace \
         < <(start; printf '{"event":"restarted","server":1,"index":18446744073709551615}')
     compare "a record that cannot be read" 3 "standard input: Is a directory (os error 21)" "" trace < /
-    compare "an answer that cannot be written" 3 "" "" trace_into_full_device < <(start)
+    compare "an answer that cannot be written" 3 "" "raft_trace: No space left on device (os error 28)" \
+        trace_into_full_device < <(start)
     files
 }
 
@@ -148,7 +149,8 @@ files() {
     compare "an empty word" 2 "" "raft_trace: : No such file or directory (os error 2)" trace "" < <(start)
     compare "a directory" 3 "$folder: Is a directory (os error 21)" "" trace "$folder"
     compare "a directory after a start" 3 "$folder: Is a directory (os error 21)" "" trace - "$folder" < <(start)
-    compare "a closed output" 3 "" "" trace_into_nothing < <(start)
+    compare "a closed output" 3 "" "raft_trace: Bad file descriptor (os error 9)" trace_into_nothing < <(start)
+    compare "a word that is no UTF-8" 3 "" "raft_trace: invalid data" trace $'\xff' < <(start)
     compare "a file" 0 "$said" "" trace crates/raft_trace/stdin
     compare "standard input among files" 0 "$said" "" trace - /dev/null < crates/raft_trace/stdin
     # Each server has its own file, which has the events of the others in no order.

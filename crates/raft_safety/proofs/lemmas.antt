@@ -38,3 +38,4 @@ pub mod LoopLemmas
 pub mod LogTreeLemmas
 pub mod CommonLemmas
 pub mod ChildLemmas
+pub mod ReadLemmas

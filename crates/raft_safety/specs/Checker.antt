@@ -1,5 +1,5 @@
 -- What the checker of recorded traces answers, and what it keeps of the events.
-use Rattle.std.specs.Prelude.{◌≡◌, ◌⊎◌, ◌<◌, ℕ, Bool, true, false, Option, Some, None, Result, List, [], ◌∷◌, length, take, get_or, is_some}
+use Rattle.std.specs.Prelude.{◌≡◌, ◌⊎◌, ◌<◌, ℕ, Bool, true, false, Option, Some, None, Result, List, [], ◌∷◌, length, take, get_or, is_some, nat_le, if◌then◌else◌}
 use Rattle.std.specs.List.{list_any}
 use Rattle.std.specs.Result.{MatchResult}
 use Rattle.raft_safety.specs.Log.{Entry, LackContent}
@@ -19,10 +19,11 @@ use Rattle.raft_safety.specs.Trace.{
   AreExact,
   is_known_committed,
   are_allowed,
+  has_campaigned,
 }
 use Rattle.raft_safety.specs.Inner.CheckerState.{LeaderState, ServerState, config_in, knows}
 use Rattle.raft_safety.specs.Inner.Kept.{AreBounded, HaveLogs, Parts, leaders_in, servers_in}
-use Rattle.raft_safety.specs.Inner.Logs.{AreLogs, AreWithout}
+use Rattle.raft_safety.specs.Inner.Logs.{AreLogs, AreWithout, last_entry}
 use Rattle.raft_safety.specs.Inner.Places.{ArePlaced}
 use Rattle.raft_safety.specs.Inner.Seen.{SeesServers, SeesLeaders}
 use Rattle.raft_safety.specs.declared.checker.violation.Violation.{Violation}
@@ -168,6 +169,19 @@ module _ {T ID D : Type 0} (k : Tests T ID D (Option D)) where
       AreExact k → (es : List (TraceEvent T ID D)) → Keeps k es p
       → MatchResult result (λ _. (is_some (k.config_of d) ≡ false) × IsUnused k.same_content d es)
       (IsUnlearned d es)
+
+module _ {T ID D : Type 0} (k : Tests T ID D (Option D)) where
+  -- a fact of all traces whose events a checker keeps
+  abbrev pub OfAll : Parts T ID D → (List (TraceEvent T ID D) → Type 0) → Type 0
+  OfAll p P = AreExact k → (es : List (TraceEvent T ID D)) → Keeps k es p → P es
+
+  -- a value of the candidate or leader of a term, if it has campaigned
+  abbrev pub if_campaigned : {X : Type 0} → List (TraceEvent T ID D) → T → ID → X → Option X
+  if_campaigned es t c x = if has_campaigned k t c es then Some x else None
+
+-- the last of so many first entries, if there are so many
+abbrev pub entry_at : {T D : Type 0} → ℕ → List (Entry T D) → Option (Entry T D)
+entry_at n log = if nat_le n (length log) then last_entry (take n log) else None
 
 -- a trace after which recorded events come, in their order
 abbrev pub trace_after : {T ID D : Type 0} → List (TraceEvent T ID D) → List (RecordedEvent T ID D)

@@ -1,5 +1,5 @@
 -- Memberships of the layer as configs of the checker.
-use Rattle.std.specs.Prelude.{◌+◌, Bool, not, nat_lt, count_by, if◌then◌else◌, Option, Some, None, List, [], ◌∷◌, length}
+use Rattle.std.specs.Prelude.{◌≡◌, ◌+◌, ◌++◌, Bool, not, nat_lt, count_by, if◌then◌else◌, Option, Some, None, List, [], ◌∷◌, length}
 use Rattle.std.specs.List.{list_any}
 use Rattle.std.specs.Set.{is_member}
 use Rattle.raft_members.specs.quorum.QuorumSize.{majority_size}
@@ -13,6 +13,11 @@ held_by same d (m ∷ held) = if same m.0 d then m.1 else held_by same d held
 abbrev pub configs_of : {Q D : Type 0} → (D → D → Bool) → List Q → List (D × List Q) → Option D → List Q
 configs_of same initial held None = initial
 configs_of same initial held (Some d) = held_by same d held
+
+-- the last membership is of this content, or there is none
+abbrev pub EndsWith : {V D : Type 0} → List (D × V) → Option D → Type 0
+EndsWith held None = held ≡ []
+EndsWith {V} {D} held (Some d) = (before : List (D × V)) × ((v : V) × (held ≡ before ++ (d, v) ∷ []))
 
 -- any majority of one config and any majority of the other share a server, because they have more
 -- servers than both configs together. This is so if the configs have the same servers, or if one of

@@ -1,12 +1,13 @@
 //! Memberships of the layer as configs of the checker.
-ghost use Rattle.std.specs.Prelude.{◌≡◌, ◌||◌, ◌++◌, ◌∷◌, [], OnErr, OnOk, map, true};
+ghost use Rattle.std.specs.Prelude.{◌≡◌, ◌||◌, ◌++◌, ◌∷◌, [], List, OnErr, OnOk, map, true};
+ghost use Rattle.std.specs.Global.{Vec};
 ghost use Rattle.std.specs.List.{IsDistinct, list_any, list_all};
 ghost use Rattle.std.specs.Set.{is_member};
 ghost use Rattle.raft_members.specs.quorum.Coherence.{share_child};
 ghost use Rattle.raft_members.specs.quorum.Majority.{is_majority};
 ghost use Rattle.raft_safety.specs.Checker.{tests_of};
 ghost use Rattle.raft_safety.specs.Trace.{AreExact};
-ghost use Rattle.raft_safety.specs.Memberships.{configs_of, majorities_meet, meets_some, some_meet};
+ghost use Rattle.raft_safety.specs.Memberships.{EndsWith, configs_of, majorities_meet, meets_some, some_meet};
 
 use crate::checker::Configs;
 use crate::term::Term;
@@ -82,6 +83,26 @@ impl<N: Copy + Ord, D: Copy + Eq> Memberships<N, D> {
     {
         self.held.push((content, configs))?;
         Ok(())
+    }
+
+    /// Returns the content of the membership that was added last.
+    pub fn last_content(&self) -> Option<D>
+        ensures { EndsWith self.now.held.items result }
+    {
+        let count = self.held.len();
+        if count == 0 {
+            return None;
+        }
+        Some(self.held[count - 1].0)
+    }
+
+    /// Removes the membership that was added last.
+    pub fn remove_last(&mut self)
+        ensures held { (before : List (D × Vec (Vec N))) → (m : D × Vec (Vec N)) →
+            self.old.held.items ≡ before ++ m ∷ [] → self.new.held.items ≡ before }
+        ensures initial { self.new.initial ≡ self.old.initial }
+    {
+        self.held.pop();
     }
 
     /// Returns the configs of a membership, none if no entry of the content holds one.

@@ -8,13 +8,15 @@ use raft_testing::words::{lists, number, words};
 use std::alloc::{AllocError, Global};
 use std::test::Fail;
 
-/// Rows of calls: the checker learns of the configs that entries of a content hold, or takes events.
+/// Rows of calls: the checker learns of the configs that entries of a content hold, forgets the last
+/// ones, or takes events.
 /// At the end of a row is `ok`, or what the call or the last event is refused for.
 ///
 /// Server 0 leads in term 1. It commits an entry without a config, then one with the config of four
 /// servers, and then one with the config of five. Each is acknowledged by 0, 1 and one other server.
 /// Servers 2, 3 and 4 are a majority of the five servers, and servers 3 and 4 are none. Two more
-/// servers become known, but no leader may add both at once.
+/// servers become known, but no leader may add both at once. The checker forgets them, so the content
+/// holds no membership, and it does not forget a membership that an entry holds.
 const ROWS: &str = "\
 campaigned 0 1; granted 1 1 0; wrote 0 1 1.10; appended 0 1 0 0 1.10; acked 0 1 0 1; \
     appended 1 1 0 0 1.10; acked 1 1 0 1; committed 0 1 1 1 = ok
@@ -29,7 +31,12 @@ granted 2 2 4; wrote 4 2 2.11 = ok
 learn 103 none = Known
 learn 10 none = Recorded
 learn 105 0,1,2,3,4,5,6 = ok
-wrote 0 1 1.105 = ApartConfigs";
+wrote 0 1 1.105 = ApartConfigs
+forget = ok
+wrote 0 1 1.105 = ok
+learn 105 0,1,2,3 = Recorded
+forget = ok
+learn 104 0,1,2,3 = Known";
 
 /// Returns a checker of servers 0, 1 and 2, which knows of no other membership.
 fn three_servers(alloc: Global) -> Result<Checked, AllocError> {
@@ -75,7 +82,10 @@ fn records(
 fn wrong_row(alloc: Global, checker: &mut Checked) -> Result<Option<&'static str>, AllocError> {
     for row in ROWS.lines() {
         let (text, expected) = row.split_once(" = ").unwrap_or((row, ""));
-        let is_right = if text.starts_with("learn") {
+        let is_right = if text == "forget" {
+            checker.forget();
+            expected == "ok"
+        } else if text.starts_with("learn") {
             learns(alloc, checker, text, expected)?
         } else {
             records(alloc, checker, text, expected)?

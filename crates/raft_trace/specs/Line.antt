@@ -31,8 +31,9 @@ module _ (number_of : Numbering) where
       (IsLen (codes "prev") first n d × HasEntries number_of d sent)
       ⊎ ((get (codes "entries") d ≡ None) × (n ≡ 0) × IsLen (codes "index") first (length sent) d)
 
-  -- a line says an event, where the first entry has this index. It does not say by which config a leader
-  -- counts, nor which leader has committed what a server applies, nor what the entries of a snapshot are
+  -- a line says an event, where the first entry has this index. It does not say which leader has
+  -- committed what a server applies, nor what the entries of a snapshot are, and it need not say by which
+  -- config a leader counts
   abbrev pub Says : ℕ → Data → TraceEvent ℕ ℕ ℕ → Type 0
   Says first d (Campaigned s t) =
       IsNamed (codes "campaigned") d
@@ -70,6 +71,7 @@ module _ (number_of : Numbering) where
       × IsId number_of (codes "leader") c d
       × (number_in (codes "term") d ≡ Some t)
       × IsLen (codes "index") first n d
+      × ((get (codes "counted_at") d ≡ None) ⊎ IsLen (codes "counted_at") first m d)
   Says first d (Applied s t c n) =
       IsNamed (codes "applied") d
       × IsId number_of (codes "server") s d

@@ -1,11 +1,12 @@
 -- A recorded run, and the trace that its lines say.
-use Rattle.std.specs.Prelude.{◌≡◌, ◌⊎◌, ℕ, true, List, [], ◌∷◌, ◌++◌, Option, Some, codes}
+use Rattle.std.specs.Prelude.{◌≡◌, ◌⊎◌, ℕ, true, List, [], ◌∷◌, ◌++◌, Option, Some, None, codes}
 use Rattle.std.specs.Global.{Vec}
 use Rattle.std.specs.List.{All}
 use Rattle.serde_json.specs.Data.{Data}
+use Rattle.serde_json.specs.Find.{get}
 use Rattle.serde_json.specs.Read.{read}
 use Rattle.raft_safety.specs.Ranks.{IsAmong}
-use Rattle.raft_safety.specs.Trace.{AreExact, IsSafeTrace, Tests, TraceEvent, Appended, Acked, Committed, are_allowed}
+use Rattle.raft_safety.specs.Trace.{AreExact, IsSafeTrace, Tests, TraceEvent, Appended, Acked, Wrote, Committed, are_allowed}
 use Rattle.raft_safety.specs.Checker.{Keeps, configs_of, kept_by}
 use Rattle.raft_safety.specs.declared.checker.violation.Violation.TheVariants.{Rule as BreaksRule}
 use Rattle.raft_safety.specs.declared.memberships.Memberships.{Memberships}
@@ -13,7 +14,7 @@ use Rattle.raft_trace.specs.Fields.{HasConfigs, IsFirst, IsNamed}
 use Rattle.raft_trace.specs.Line.{IsVote, Says}
 use Rattle.raft_trace.specs.Names.{AreApart, Extends, IsTable, Numbering, numbering}
 use Rattle.raft_trace.specs.declared.fault.Fault.{Fault}
-use Rattle.raft_trace.specs.declared.fault.Fault.TheVariants.{Malformed, Refused}
+use Rattle.raft_trace.specs.declared.fault.Fault.TheVariants.{Malformed, Refused, Skips}
 use Rattle.raft_trace.specs.Votes.{AreVotesIn}
 use Rattle.raft_trace.specs.declared.judge.Judge.{Judge}
 
@@ -21,11 +22,30 @@ use Rattle.raft_trace.specs.declared.judge.Judge.{Judge}
 abbrev pub Adds : TraceEvent ℕ ℕ ℕ → List (TraceEvent ℕ ℕ ℕ) → List (TraceEvent ℕ ℕ ℕ) → Type 0
 Adds e before after = (after ≡ e ∷ before) ⊎ (IsVote e × IsAmong e before × (after ≡ before))
 
--- a trace has the event more that a line says. An empty line says nothing
-abbrev pub AddsLine : Numbering → ℕ → List ℕ → List (TraceEvent ℕ ℕ ℕ) → List (TraceEvent ℕ ℕ ℕ) → Type 0
-AddsLine number_of first line before after =
-    ((line ≡ []) × (after ≡ before))
-    ⊎ ((d : Data) × (e : TraceEvent ℕ ℕ ℕ) × (read line ≡ Some d) × Says number_of first d e
+-- a membership, with the content of the entries that hold it
+abbrev pub Held : Type 0
+Held = ℕ × Vec (Vec ℕ)
+
+-- a line says which membership the entry of its event holds, if it holds one
+abbrev pub SaysMembership : Numbering → Data → TraceEvent ℕ ℕ ℕ → Option Held → Type 0
+SaysMembership number_of d (Wrote c t e) (Some m) = (m.0 ≡ e.content) × HasConfigs number_of d m.1.items
+SaysMembership number_of d (Wrote c t e) None = get (codes "voters") d ≡ None
+SaysMembership number_of d e (Some m) = ⊥
+SaysMembership number_of d e None = Unit {0}
+
+-- there is this membership more, or it was there before
+abbrev pub AddsMembership : Option Held → List Held → List Held → Type 0
+AddsMembership None before after = after ≡ before
+AddsMembership (Some m) before after = (after ≡ before ++ m ∷ []) ⊎ (IsAmong m before × (after ≡ before))
+
+-- a trace has the event more that a line says, and there is the membership more that its entry holds. An
+-- empty line says nothing
+abbrev pub AddsLine : Numbering → ℕ → List ℕ → List Held → List (TraceEvent ℕ ℕ ℕ) → List Held
+    → List (TraceEvent ℕ ℕ ℕ) → Type 0
+AddsLine number_of first line known before held after =
+    ((line ≡ []) × (held ≡ known) × (after ≡ before))
+    ⊎ ((d : Data) × (e : TraceEvent ℕ ℕ ℕ) × (m : Option Held) × (read line ≡ Some d)
+    × Says number_of first d e × SaysMembership number_of d e m × AddsMembership m known held
     × Adds e before after)
 
 -- an event that may be filled in, though no line says it: a server takes or acknowledges entries, or a
@@ -42,12 +62,14 @@ FillsIn before after =
     (filled : List (TraceEvent ℕ ℕ ℕ)) × All IsFilledIn filled × (after ≡ filled ++ before)
 
 -- a trace is what these lines say, in their order, but for votes that it has already, and for events
--- that are filled in at any place. The latest line and the latest event are first
-abbrev pub IsTraceOf : Numbering → ℕ → List (List ℕ) → List (TraceEvent ℕ ℕ ℕ) → Type 0
-IsTraceOf number_of first [] es = FillsIn [] es
-IsTraceOf number_of first (line ∷ earlier) es =
-    (before : List (TraceEvent ℕ ℕ ℕ)) × IsTraceOf number_of first earlier before
-    × ((after : List (TraceEvent ℕ ℕ ℕ)) × AddsLine number_of first line before after × FillsIn after es)
+-- that are filled in at any place. The memberships are those that lines say. The latest line and the
+-- latest event are first
+abbrev pub IsTraceOf : Numbering → ℕ → List (List ℕ) → List Held → List (TraceEvent ℕ ℕ ℕ) → Type 0
+IsTraceOf number_of first [] held es = (held ≡ []) × FillsIn [] es
+IsTraceOf number_of first (line ∷ earlier) held es =
+    (known : List Held) × (before : List (TraceEvent ℕ ℕ ℕ)) × IsTraceOf number_of first earlier known before
+    × ((after : List (TraceEvent ℕ ℕ ℕ)) × AddsLine number_of first line known before held after
+    × FillsIn after es)
 
 -- lines after which others come, the latest first
 abbrev pub and_lines : List (List ℕ) → List (List ℕ) → List (List ℕ)
@@ -74,9 +96,10 @@ LeavesStartsOut first_line (line ∷ later) kept =
     (SayOneStart first_line line × LeavesStartsOut first_line later kept)
     ⊎ ((rest : List (List ℕ)) × (kept ≡ line ∷ rest) × LeavesStartsOut first_line later rest)
 
--- a line is broken: it is no event, or it breaks a rule
+-- a line is broken: it is no event, it has not the next index of its leader, or it breaks a rule
 abbrev pub IsBroken : Fault → Type 0
 IsBroken Malformed = Unit {0}
+IsBroken (Skips next) = Unit {0}
 IsBroken (Refused (BreaksRule rule)) = Unit {0}
 IsBroken fault = ⊥
 
@@ -94,21 +117,27 @@ module _ (tests : Memberships ℕ ℕ → Tests ℕ ℕ ℕ (Option ℕ)) where
     pub number_of : Numbering
     pub apart : AreApart number_of
     pub starts : SaysStart number_of first_line members.initial.items first
-    pub no_changes : members.held.items ≡ []
     pub trace : List (TraceEvent ℕ ℕ ℕ)
-    pub is_trace : IsTraceOf number_of first (and_lines [] kept) trace
+    pub is_trace : IsTraceOf number_of first (and_lines [] kept) members.held.items trace
     pub allowed : are_allowed (tests members) trace ≡ true
     pub safe : IsSafeTrace (tests members) trace
 
-  -- a judge has taken these lines, the latest first
-  pub record HasTaken (taken : List (List ℕ)) (judge : Judge) : Type 0 where
+  -- a judge keeps the events of a trace, remembers votes of it, and has a table of names
+  pub record KeepsTrace (judge : Judge) (es : List (TraceEvent ℕ ℕ ℕ)) : Type 0 where
     pub exact : AreExact (tests (configs_of judge.checker))
     pub table : IsTable judge.names
+    pub keeps : Keeps (tests (configs_of judge.checker)) es (kept_by judge.checker)
+    pub votes : AreVotesIn judge.counts.votes.entries es
+
+  -- the memberships that a judge knows of entries
+  abbrev pub held_by : Judge → List Held
+  held_by judge = (configs_of judge.checker).held.items
+
+  -- a judge has taken these lines, the latest first
+  pub record HasTaken (taken : List (List ℕ)) (judge : Judge) : Type 0 where
     pub trace : List (TraceEvent ℕ ℕ ℕ)
-    pub is_trace : IsTraceOf (numbering judge.names) judge.first taken trace
-    pub no_changes : (configs_of judge.checker).held.items ≡ []
-    pub keeps : Keeps (tests (configs_of judge.checker)) trace (kept_by judge.checker)
-    pub votes : AreVotesIn judge.counts.votes.entries trace
+    pub is_trace : IsTraceOf (numbering judge.names) judge.first taken (held_by judge) trace
+    pub keeps : KeepsTrace judge trace
 
   -- a judge that has taken no line after the first one
   abbrev pub IsStarted : List ℕ → Judge → Type 0
@@ -132,26 +161,36 @@ module _ (tests : Memberships ℕ ℕ → Tests ℕ ℕ ℕ (Option ℕ)) where
   abbrev pub Refuses : Judge → Judge → Type 0
   Refuses old new = GoesOn old new × ((taken : List (List ℕ)) → HasTaken taken old → HasTaken taken new)
 
-  -- a judge that keeps the events of a trace keeps those of another one, of which this is known
-  abbrev pub KeepsMore : (List (TraceEvent ℕ ℕ ℕ) → List (TraceEvent ℕ ℕ ℕ) → Type 0) → Judge → Judge
+  -- if a judge keeps the events of a trace, it then keeps those of another, which this relates to the
+  -- first, and it knows the membership more, if there is one
+  abbrev pub KeepsMore : (List (TraceEvent ℕ ℕ ℕ) → List (TraceEvent ℕ ℕ ℕ) → Type 0) → Option Held → Judge → Judge
       → Type 0
-  KeepsMore P old new =
-      (configs_of new.checker ≡ configs_of old.checker)
-      × (new.first ≡ old.first)
-      × (new.names ≡ old.names)
-      × (AreExact (tests (configs_of old.checker)) → (es : List (TraceEvent ℕ ℕ ℕ))
-      → Keeps (tests (configs_of old.checker)) es (kept_by old.checker)
-      → AreVotesIn old.counts.votes.entries es
+  KeepsMore P m old new =
+      GoesOn old new
+      × ((es : List (TraceEvent ℕ ℕ ℕ)) → KeepsTrace old es
       → (after : List (TraceEvent ℕ ℕ ℕ)) × P es after
-      × Keeps (tests (configs_of old.checker)) after (kept_by new.checker)
-      × AreVotesIn new.counts.votes.entries after)
+      × AddsMembership m (held_by old) (held_by new) × KeepsTrace new after)
+
+  -- a judge keeps the same events
+  abbrev pub Stays : Judge → Judge → Type 0
+  Stays old new = KeepsMore (λ es after. after ≡ es) None old new
 
   -- a judge fills in events
   abbrev pub Fills : Judge → Judge → Type 0
-  Fills old new = KeepsMore FillsIn old new
+  Fills old new = KeepsMore FillsIn None old new
 
-  -- a judge takes one event more, and may fill in others before
-  abbrev pub TakesEvent : TraceEvent ℕ ℕ ℕ → Judge → Judge → Type 0
-  TakesEvent e old new =
-      KeepsMore
-      (λ es after. (before : List (TraceEvent ℕ ℕ ℕ)) × FillsIn es before × Adds e before after) old new
+  -- a judge takes one event more, whose entry holds the membership, if there is one
+  abbrev pub TakesEvent : TraceEvent ℕ ℕ ℕ → Option Held → Judge → Judge → Type 0
+  TakesEvent e m old new = KeepsMore (Adds e) m old new
+
+  -- a judge takes one event more, whose entry holds this membership or an equal one, as a line says it
+  abbrev pub TakesHolding : TraceEvent ℕ ℕ ℕ → Held → Judge → Judge → Type 0
+  TakesHolding e m old new =
+      (number_of : Numbering) (d : Data) → SaysMembership number_of d e (Some m)
+      → (n : Held) × SaysMembership number_of d e (Some n) × TakesEvent e (Some n) old new
+
+  -- a judge takes the event that a line says
+  abbrev pub TakesSaid : Data → Judge → Judge → Type 0
+  TakesSaid d old new =
+      (e : TraceEvent ℕ ℕ ℕ) × ((m : Option Held) × Says (numbering old.names) old.first d e
+      × SaysMembership (numbering old.names) d e m × TakesEvent e m old new)

@@ -38,6 +38,8 @@ const MORE: &str = "There are more than seven servers, and the first seven are d
 pub struct Chart {
     /// Whether the chart is wanted. If not, it stays empty.
     is_drawn: bool,
+    /// Whether a row has the number of its line, and not of its event.
+    by_line: bool,
     /// The allocator.
     alloc: Global,
     /// The index of the first entry.
@@ -70,16 +72,19 @@ pub struct Chart {
 
 impl Chart {
     /// Returns the chart of a cluster that starts as a line says, with a column for each voter of these
-    /// configs. If the chart is not wanted, it stays empty.
+    /// configs. If the chart is not wanted, it stays empty. A row has the number of its line or of its
+    /// event.
     pub fn start(
         alloc: Global,
         line: &[u8],
         first: u64,
         configs: &[Vec<u64>],
         is_drawn: bool,
+        by_line: bool,
     ) -> Result<Chart, AllocError> {
         let mut chart = Chart {
             is_drawn,
+            by_line,
             alloc,
             first,
             servers: Vec::new(alloc),
@@ -124,13 +129,17 @@ impl Chart {
         Ok(())
     }
 
-    /// Begins with a line, whose row has this number. The events that follow are the one that the line
-    /// says, and those that it needs.
-    pub fn begin(&mut self, number: u64, line: &Value) -> Result<(), AllocError> {
+    /// Begins with the line of this number, after so many events. The events that follow are the one that
+    /// the line says, and those that it needs.
+    pub fn begin(&mut self, number: u64, events: u64, line: &Value) -> Result<(), AllocError> {
         if !self.is_drawn {
             return Ok(());
         }
-        self.number = number;
+        self.number = if self.by_line {
+            number
+        } else {
+            events.saturating_add(1)
+        };
         self.is_snapshot = is_named(line, "appended") && line.get("entries").is_none();
         let field = match event_name(line).unwrap_or("") {
             "wrote" | "committed" => "leader",

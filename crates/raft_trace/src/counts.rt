@@ -12,12 +12,18 @@ use std::collections::{BTreeMap, BTreeSet};
 /// What is counted of the events so far.
 #[derive(Drop)]
 pub struct Counts {
-    /// The voters when the cluster starts.
-    pub voters: BTreeSet<u64>,
-    /// The events.
+    /// The servers that occur in events, or as voters of the start.
+    pub servers: BTreeSet<u64>,
+    /// The events of lines.
     pub events: u64,
     /// The votes that were sent again.
     pub left_out: u64,
+    /// The commits that were filled in.
+    pub commits: u64,
+    /// The acknowledgements that were filled in.
+    pub acks: u64,
+    /// The appends that were filled in.
+    pub appends: u64,
     /// The terms in which a leader has written an entry.
     pub terms: BTreeSet<u64>,
     /// The greatest number of entries that a leader has committed.
@@ -34,14 +40,33 @@ impl Counts {
         ensures { IfOk result (λ counts. counts.votes.entries ≡ []) }
     {
         Ok(Counts {
-            voters: voters_of(alloc, configs)?,
+            servers: voters_of(alloc, configs)?,
             events: 0,
             left_out: 0,
+            commits: 0,
+            acks: 0,
+            appends: 0,
             terms: BTreeSet::new(alloc),
             committed: 0,
             committed_by: None,
             votes: BTreeMap::new(alloc),
         })
+    }
+
+    /// Returns how many servers occur in events, as voters of the start, or as voters of these memberships.
+    pub fn server_count(
+        &self,
+        alloc: Global,
+        held: &[(u64, Vec<Vec<u64>>)],
+    ) -> Result<usize, AllocError> {
+        let mut servers = BTreeSet::new(alloc);
+        for id in &self.servers {
+            servers.insert(*id)?;
+        }
+        for membership in held {
+            add_voters(&mut servers, &membership.1)?;
+        }
+        Ok(servers.len())
     }
 
     /// Whether the event is the last vote of the server, sent again.
@@ -74,11 +99,15 @@ impl Counts {
     {
         self.events = self.events.saturating_add(1);
         match event {
+            Event::Campaigned { server, .. } => {
+                self.servers.insert(*server)?;
+            }
             Event::Granted {
                 server,
                 term,
                 candidate,
             } => {
+                self.servers.insert(*server)?;
                 self.votes.insert(*server, (*term, *candidate))?;
             }
             Event::Wrote { term, .. } => {
@@ -89,23 +118,62 @@ impl Counts {
                 term,
                 len,
                 ..
-            } => {
-                self.committed = self.committed.max(*len);
-                self.committed_by = self.committed_by.max(Some((*term, *leader)));
+            } => self.note_commit(*leader, *term, *len),
+            Event::Appended { server, .. } => {
+                self.servers.insert(*server)?;
             }
             _ => {}
         }
         Ok(())
+    }
+
+    /// Counts an event that is filled in.
+    pub fn note_filled_in(&mut self, event: &Act)
+        ensures { self.new.votes ≡ self.old.votes }
+    {
+        match event {
+            Event::Committed {
+                leader,
+                term,
+                len,
+                ..
+            } => {
+                self.commits = self.commits.saturating_add(1);
+                self.note_commit(*leader, *term, *len);
+            }
+            Event::Acked { .. } => self.acks = self.acks.saturating_add(1),
+            _ => self.appends = self.appends.saturating_add(1),
+        }
+    }
+
+    /// Notes that a leader commits so many first entries.
+    fn note_commit(&mut self, leader: u64, term: u64, len: usize)
+        ensures { self.new.votes ≡ self.old.votes }
+    {
+        self.committed = self.committed.max(len);
+        self.committed_by = self.committed_by.max(Some((term, leader)));
     }
 }
 
 /// Returns the voters of configs.
 fn voters_of(alloc: Global, configs: &[Vec<u64>]) -> Result<BTreeSet<u64>, AllocError> {
     let mut voters = BTreeSet::new(alloc);
-    for config in configs {
-        for id in config {
-            voters.insert(*id)?;
-        }
-    }
+    add_voters(&mut voters, configs)?;
     Ok(voters)
+}
+
+/// Adds the voters of configs to some servers.
+fn add_voters(servers: &mut BTreeSet<u64>, configs: &[Vec<u64>]) -> Result<(), AllocError> {
+    for config in configs {
+        add_each(servers, config)?;
+    }
+    Ok(())
+}
+
+/// Adds each of these ids to some servers.
+fn add_each(servers: &mut BTreeSet<u64>, ids: &[u64]) -> Result<(), AllocError> {
+    for id in ids {
+        servers.insert(*id)?;
+    }
+    Ok(())
 }

@@ -8,22 +8,29 @@ ghost use Rattle.raft_trace.specs.Names.{numbering};
 
 use crate::field::{entries, event_name, id, is_named, len, number};
 use crate::names::Names;
+use raft_safety::checker::Checker;
 use raft_safety::entry::Entry;
 use raft_safety::event::Event;
+use raft_safety::memberships::Memberships;
 use serde_json::Value;
 use std::alloc::{AllocError, Global};
 
 /// An event of a trace.
 pub type Act = Event<u64, u64, u64>;
 
-/// Returns the event that a line says. `first` is the index of the first entry, and `committed_by` the
-/// greatest term of which a leader has committed entries, with this leader.
+/// The checker of a trace.
+pub type Checking = Checker<u64, u64, u64, Memberships<u64, u64>>;
+
+/// Returns the event that a line says. `first` is the index of the first entry, `committed_by` the
+/// greatest term of which a leader has committed entries, with this leader, and `checker` knows what
+/// leaders have written.
 pub fn event_of(
     alloc: Global,
     names: &Names,
     value: &Value,
     first: u64,
     committed_by: Option<(u64, u64)>,
+    checker: &Checking,
 ) -> Result<Option<Act>, AllocError>
     ensures { IfOk result (λ o. IfSome o (λ e.
         Says (numbering names.now) first (view value.now) (trace_event e))) }
@@ -37,7 +44,7 @@ pub fn event_of(
         "acked" => acked(names, value, first),
         "restarted" => restarted(names, value, first),
         "wrote" => wrote(names, value),
-        "committed" => committed(names, value, first),
+        "committed" => committed(names, value, first, checker),
         "applied" => applied(names, value, first, committed_by),
         _ => None,
     })
@@ -162,8 +169,7 @@ fn wrote(names: &Names, value: &Value) -> Option<Act>
     ensures { IfSome result (λ e. (first : ℕ) →
         Says (numbering names.now) first (view value.now) (trace_event e)) }
 {
-    // The members do not change yet, so a line with a config is no event.
-    if !is_named(value, "wrote") || value.get("voters").is_some() {
+    if !is_named(value, "wrote") {
         return None;
     }
     let term = number(value, "term")?;
@@ -177,21 +183,28 @@ fn wrote(names: &Names, value: &Value) -> Option<Act>
     })
 }
 
-/// Returns the event that a leader commits entries up to an index. The members do not change, so it
-/// does not matter by which of its entries the leader counted.
-fn committed(names: &Names, value: &Value, first: u64) -> Option<Act>
+/// Returns the event that a leader commits entries up to an index. If the line does not say by which of
+/// its entries the leader counted, it has counted by all that it has written.
+fn committed(names: &Names, value: &Value, first: u64, checker: &Checking) -> Option<Act>
     ensures { IfSome result (λ e.
         Says (numbering names.now) first (view value.now) (trace_event e)) }
 {
     if !is_named(value, "committed") {
         return None;
     }
-    let len = len(value, "index", first)?;
+    let leader = id(names, value, "leader")?;
+    let term = number(value, "term")?;
+    let index_len = len(value, "index", first)?;
+    let counted_at = if value.get("counted_at").is_none() {
+        checker.leader_len(term, leader).unwrap_or(index_len)
+    } else {
+        len(value, "counted_at", first)?
+    };
     Some(Event::Committed {
-        leader: id(names, value, "leader")?,
-        term: number(value, "term")?,
-        len,
-        counted_at: len,
+        leader,
+        term,
+        len: index_len,
+        counted_at,
     })
 }
 

@@ -11,6 +11,8 @@ use std::alloc::AllocError;
 pub enum Fault {
     /// It is no event.
     Malformed,
+    /// It has not the next index of its leader, which is this one.
+    Skips(u64),
     /// It breaks a rule, or there is no memory for it.
     Refused(Violation),
 }
@@ -19,11 +21,11 @@ impl Fault {
     ghost use Rattle.std.specs.Prelude.{IsTrue};
     ghost use Rattle.raft_trace.specs.Run.{IsBroken};
 
-    /// Whether the line breaks a rule.
+    /// Whether the line breaks a rule, or has not the next index of its leader.
     pub fn is_broken(&self) -> bool
         ensures { IsTrue result → IsBroken self.now }
     {
-        matches!(self, Fault::Refused(Violation::Rule(_)))
+        matches!(self, Fault::Skips(_) | Fault::Refused(Violation::Rule(_)))
     }
 }
 

@@ -104,6 +104,14 @@ impl<B> Lines<B> {
         Ok(())
     }
 
+    /// Returns the name of the input, if it has one.
+    pub fn path(&self) -> Option<&str> {
+        match &self.name {
+            Some(name) => Some(name.as_str()),
+            None => None,
+        }
+    }
+
     /// Returns the name of the input in answers.
     pub fn name(&self) -> &str {
         match &self.name {

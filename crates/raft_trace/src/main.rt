@@ -4,8 +4,11 @@
 mod chart;
 mod counts;
 mod event;
+mod facts;
 mod fault;
 mod field;
+mod fill;
+mod followed;
 mod input;
 mod judge;
 mod names;
@@ -15,6 +18,7 @@ mod start;
 #[cfg(test)]
 mod tests;
 mod text;
+mod why;
 
 use crate::input::Lines;
 use crate::progress::Progress;
@@ -69,7 +73,14 @@ impl Read for Source {
 type SourceLines = Lines<BufReader<Source>>;
 
 fn main(rt: HostRuntime) -> ExitCode {
-    ExitCode::from(run_words(&rt).unwrap_or(3))
+    match run_words(&rt) {
+        Ok(status) => ExitCode::from(status),
+        Err(error) => {
+            // If standard error is closed, the status says enough.
+            let _ = eprintln!(rt; "raft_trace: {error}");
+            ExitCode::from(3)
+        }
+    }
 }
 
 /// Does what the command line asks for. Returns the exit status.
@@ -82,7 +93,6 @@ fn run_words(rt: &HostRuntime) -> io::Result<u8> {
             Ok(0)
         }
         Some(option) => {
-            // The status says enough if standard error is closed.
             let _ = eprintln!(rt; "raft_trace: `{option}` is no option; --help prints the usage");
             Ok(2)
         }

@@ -63,6 +63,29 @@ impl Names {
         }
     }
 
+    /// Writes the name that a number stands for, as JSON has it.
+    pub fn push(&self, answer: &mut String, number: u64) -> Result<(), AllocError> {
+        for (text, stand) in &self.texts {
+            if *stand == number {
+                let text = Value::String(String::from_str(self.alloc, text.as_str())?);
+                write!(answer, "{text}")?;
+                return Ok(());
+            }
+        }
+        write!(answer, "{}", self.large_name(number))?;
+        Ok(())
+    }
+
+    /// Returns the number that a number stands for.
+    fn large_name(&self, number: u64) -> u64 {
+        for (name, stand) in &self.large {
+            if *stand == number {
+                return *name;
+            }
+        }
+        number
+    }
+
     /// Gives each name of a line a number, unless the name has one.
     pub fn learn(&mut self, line: &Value) -> Result<(), AllocError>
         ensures { OnOk result (Learns self.old self.new) }

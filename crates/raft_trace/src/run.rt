@@ -1,5 +1,5 @@
 //! Judges a recorded run, which is one list of lines or several.
-ghost use Rattle.std.specs.Prelude.{◌≡◌, ◌<◌, [], ◌∷◌, ℕ, List, IfErr, IfOk, IsTrue, OnOk, Some, map};
+ghost use Rattle.std.specs.Prelude.{◌≡◌, ◌*◌, ◌<◌, ◌≤◌, [], ◌∷◌, ℕ, List, IfErr, IfOk, IsTrue, OnOk, Some, map};
 ghost use Rattle.std.specs.List.{All};
 ghost use Rattle.raft_trace.specs.Input.{lines_left};
 ghost use Rattle.raft_trace.specs.Lists.{AreSafe, Begins, Judges, JudgesNext, JudgesSome};
@@ -7,12 +7,14 @@ ghost use Rattle.raft_trace.specs.Numbers.{number_tests};
 ghost use Rattle.raft_trace.specs.Run.{IsBroken, SafeRun};
 
 use crate::chart::Chart;
+use crate::facts::Place;
 use crate::fault::Fault;
 use crate::input::Lines;
 use crate::judge::{Judge, start};
 use crate::progress::Progress;
 use crate::start::say_one_start;
 use crate::text::{push_fault, push_safe};
+use crate::why::push_why;
 use raft_safety::laws::traces_are_executions;
 use std::alloc::{AllocError, Global};
 use std::io::{self, BufRead};
@@ -101,12 +103,13 @@ fn begin<B: BufRead>(
     if lists.is_empty() {
         return Err(Stop::Line(Fault::Malformed));
     }
+    let is_alone = lists.len() == 1;
     let first = &mut lists[0];
     if !first.has_next()? {
         return Err(Stop::Line(Fault::Malformed));
     }
     let line = first.line.as_slice().to_vec(alloc)?;
-    let judge = start(alloc, &line, is_drawn)?;
+    let judge = start(alloc, &line, is_drawn, is_alone)?;
     first.pass();
     Ok((line, judge))
 }
@@ -114,7 +117,7 @@ fn begin<B: BufRead>(
 /// Takes lines of the lists, until the next line of each list is refused, or all lists are at their end.
 ///
 /// After a line that is taken, the next one is of the same list. After one that is refused, it is of
-/// the next list.
+/// the next list. Events are filled in only if the next line of each list is refused without them.
 ///
 /// # Errors
 ///
@@ -129,17 +132,17 @@ fn take_lines<B: BufRead>(
     ensures { OnOk result (JudgesSome number_tests first_line.now (map (lines_left B.remaining) lists.old)
         (map (lines_left B.remaining) lists.new) judge.old judge.new) }
 {
-    let is_alone = lists.len() == 1;
     let mut at = 0;
     let mut refused = 0;
     for _ in 0..u64::MAX {
-        if refused >= lists.len() {
+        if refused >= tries(lists.len()) {
             return Ok(());
         }
+        let fills = may_fill_in(refused, lists.len());
         if at >= lists.len() {
             at = 0;
         }
-        let is_taken = match take_next(alloc, first_line, is_alone, &mut lists[at], judge) {
+        let is_taken = match take_next(alloc, first_line, at, fills, &mut lists[at], judge) {
             Ok(is_taken) => is_taken,
             Err(stop) => return Err((at, stop)),
         };
@@ -154,12 +157,30 @@ fn take_lines<B: BufRead>(
     Err((at, Stop::from(AllocError)))
 }
 
-/// Takes the next line of a list, if it is allowed. Returns whether a line was taken. A row of the chart
-/// has the number of its line if the list is alone, and of its event otherwise.
+/// Returns how many lines in a row are refused before a run is judged no further. If there are several
+/// lists, the next line of each is tried twice.
+fn tries(lists: usize) -> usize
+    ensures { result ≤ 2 * lists }
+{
+    if lists > 1 {
+        lists.saturating_mul(2)
+    } else {
+        lists
+    }
+}
+
+/// Whether events may be filled in for the next line, after so many lines in a row were refused. If there
+/// are several lists, a line of another list may say what the next line lacks, so that is tried first.
+fn may_fill_in(refused: usize, lists: usize) -> bool {
+    lists <= 1 || refused >= lists
+}
+
+/// Takes the next line of a list, if it is allowed. Returns whether a line was taken.
 fn take_next<B: BufRead>(
     alloc: Global,
     first_line: &[u8],
-    is_alone: bool,
+    number: usize,
+    fills: bool,
     list: &mut Lines<B>,
     judge: &mut Judge,
 ) -> Result<bool, Stop>
@@ -169,12 +190,11 @@ fn take_next<B: BufRead>(
     if !list.has_next()? {
         return Ok(false);
     }
-    let number = if is_alone {
-        list.number
-    } else {
-        judge.counts.events.saturating_add(1)
+    let place = Place {
+        list: number,
+        line: list.number,
     };
-    match take_line(alloc, first_line, number, &list.line, judge) {
+    match take_line(alloc, first_line, place, fills, &list.line, judge) {
         Ok(()) => {
             list.pass();
             Ok(true)
@@ -187,12 +207,12 @@ fn take_next<B: BufRead>(
     }
 }
 
-/// Takes a line after the first one, whose row in the chart has this number. A line that says again how
-/// the cluster starts says no event.
+/// Takes a line after the first one. A line that says again how the cluster starts says no event.
 fn take_line(
     alloc: Global,
     first_line: &[u8],
-    number: u64,
+    place: Place,
+    fills: bool,
     line: &[u8],
     judge: &mut Judge,
 ) -> Result<(), Fault>
@@ -200,7 +220,7 @@ fn take_line(
     ensures broken { IfErr result (λ fault. IsBroken fault →
         Judges number_tests first_line.now [] judge.old judge.new) }
 {
-    match judge.take(alloc, number, line) {
+    match judge.take(alloc, place, fills, line) {
         Ok(()) => Ok(()),
         Err(Fault::Malformed) => {
             if say_one_start(alloc, first_line, line)? {
@@ -238,27 +258,33 @@ fn push_verdict<B: BufRead>(
 {
     if !are_ended(lists) {
         judge.chart.push_refused_to(answer)?;
-        return push_waiting(alloc, answer, lists);
+        return push_waiting(alloc, answer, lists, judge);
     }
     judge.chart.push_to(answer)?;
-    push_safe(answer, &judge.counts)?;
+    push_safe(alloc, answer, judge)?;
     Ok(0)
 }
 
-/// Writes the line that each list waits with, and why. The list that waits longest comes first.
+/// Writes the line that each list waits with, why, and which line it contradicts. The list that waits
+/// longest comes first.
 /// Returns the exit status.
-fn push_waiting<B>(alloc: Global, answer: &mut String, lists: &[Lines<B>]) -> Result<u8, AllocError>
+fn push_waiting<B>(
+    alloc: Global,
+    answer: &mut String,
+    lists: &[Lines<B>],
+    judge: &Judge,
+) -> Result<u8, AllocError>
     ensures { IfOk result (λ status. 0 < status) }
 {
     let longest = longest_waiting(lists);
     for (i, list) in lists.iter().enumerate() {
         if i == longest {
-            push_wait(alloc, answer, list)?;
+            push_wait(alloc, answer, lists, judge, list)?;
         }
     }
     for (i, list) in lists.iter().enumerate() {
         if i != longest {
-            push_wait(alloc, answer, list)?;
+            push_wait(alloc, answer, lists, judge, list)?;
         }
     }
     Ok(1)
@@ -279,11 +305,18 @@ fn longest_waiting<B>(lists: &[Lines<B>]) -> usize {
     longest
 }
 
-/// Writes the line that a list waits with, and why, if it waits.
-fn push_wait<B>(alloc: Global, answer: &mut String, list: &Lines<B>) -> Result<(), AllocError> {
+/// Writes the line that a list waits with, why, and which line it contradicts, if it waits.
+fn push_wait<B>(
+    alloc: Global,
+    answer: &mut String,
+    lists: &[Lines<B>],
+    judge: &Judge,
+    list: &Lines<B>,
+) -> Result<(), AllocError> {
     if let Some(wait) = list.wait {
         list.push_place(answer)?;
         push_fault(alloc, answer, &list.line, false, wait.fault)?;
+        push_why(alloc, answer, lists, judge, &list.line, wait.fault)?;
     }
     Ok(())
 }

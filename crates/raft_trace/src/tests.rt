@@ -1,6 +1,7 @@
 //! Answers to recorded runs.
 
 mod chart;
+mod fills;
 mod names;
 
 use crate::input::Lines;
@@ -22,16 +23,16 @@ const LED: &str = r#"{"event":"started","voters":[[1,2,3]],"first":2}
 "#;
 
 /// Lines after those of `LED`, and the status and the answer.
-const ROWS: [(&str, u8, &str); 17] = [
+const ROWS: [(&str, u8, &str); 18] = [
     (
         "",
         0,
-        "safe: 7 events, 3 voters, 1 terms with a leader, 0 committed, 0 votes sent again\n",
+        "safe: 7 events, 3 servers, 1 term with a leader, 0 committed, 0 membership changes\n",
     ),
     (
         r#"{"event":"granted","server":2,"term":1,"candidate":1}"#,
         0,
-        "safe: 7 events, 3 voters, 1 terms with a leader, 0 committed, 1 votes sent again\n",
+        "safe: 7 events, 3 servers, 1 term with a leader, 0 committed, 0 membership changes, 1 vote left out\n",
     ),
     (
         r#"{"event":"granted","server":2,"term":1,"candidate":3}"#,
@@ -42,7 +43,7 @@ const ROWS: [(&str, u8, &str); 17] = [
         r#"{"event":"granted","server":2,"term":2,"candidate":3}"#,
         1,
         "line 9: server 2 votes in term 2 for 3: the candidate's log is not as up to date as the \
-            server's\n",
+            server's\n  line 8: server 3 campaigns in term 2\n",
     ),
     (
         r#"{"event":"committed","leader":1,"term":1,"index":2}"#,
@@ -55,12 +56,13 @@ const ROWS: [(&str, u8, &str); 17] = [
 
 {"event":"applied","server":2,"index":2}"#,
         0,
-        "safe: 10 events, 3 voters, 1 terms with a leader, 1 committed, 0 votes sent again\n",
+        "safe: 10 events, 3 servers, 1 term with a leader, 1 committed, 0 membership changes\n",
     ),
     (
         r#"{"event":"restarted","server":1,"index":1}"#,
         1,
-        "line 9: server 1 restarts with index 1: the server has lost durable entries\n",
+        "line 9: server 1 restarts with index 1: the server has lost durable entries\n  line 6: server 1 \
+            acknowledges index 2 to 1 in term 1\n",
     ),
     (
         r#"{"event":"restarted","server":1,"index":0}"#,
@@ -68,9 +70,17 @@ const ROWS: [(&str, u8, &str); 17] = [
         "line 9: `restarted` needs the text or number `server`, and the number `index`\n",
     ),
     (
-        r#"{"event":"applied","server":2,"index":2}"#,
+        r#"{"event":"applied","server":1,"index":2}"#,
         1,
-        "line 9: server 2 applies up to index 2: the entries are not known to be committed\n",
+        "line 9: server 1 applies up to index 2: the entries are not known to be committed\n",
+    ),
+    // Server 2 has the entry and has applied it, so it has acknowledged it, and the leader has committed it.
+    (
+        r#"{"event":"applied","server":2,"index":2}
+{"event":"applied","server":1,"index":2}"#,
+        0,
+        "safe: 9 events, 3 servers, 1 term with a leader, 1 committed, 0 membership changes, 1 commit \
+            inferred, 1 acknowledgement inferred\n",
     ),
     (
         r#"{"event":"acked","server":[2],"term":1,"leader":1,"index":2}"#,
@@ -80,9 +90,9 @@ const ROWS: [(&str, u8, &str); 17] = [
     ),
     (
         r#"{"event":"wrote","leader":1,"term":1,"index":3,"content":8,"voters":[[1,2]]}"#,
-        2,
-        "line 9: `wrote` needs the texts or numbers `leader` and `content`, the number `term`, and no \
-            `voters`\n",
+        1,
+        "line 9: leader 1 writes an entry in term 1: the leader has not committed an own entry and the \
+            config in effect\n",
     ),
     (
         r#"{"event":"appended","server":3,"term":2,"leader":3,"index":1}"#,
@@ -95,7 +105,7 @@ const ROWS: [(&str, u8, &str); 17] = [
 {"event":"acked","server":2,"term":1,"leader":1,"index":2}
 {"event":"committed","leader":1,"term":1,"index":2}"#,
         0,
-        "safe: 10 events, 3 voters, 1 terms with a leader, 1 committed, 0 votes sent again\n",
+        "safe: 10 events, 3 servers, 1 term with a leader, 1 committed, 0 membership changes\n",
     ),
     (
         r#"{"event":"appended","server":2,"term":1,"leader":1,"index":3}"#,
@@ -158,7 +168,7 @@ const LISTS: [(&str, u8, &str); 10] = [
 {"event":"campaigned","server":3,"term":2}
 "#,
         0,
-        "safe: 10 events, 3 voters, 1 terms with a leader, 1 committed, 0 votes sent again\n",
+        "safe: 10 events, 3 servers, 1 term with a leader, 1 committed, 0 membership changes\n",
     ),
     // The second list waits for a leader of which no line says anything, and the third one for the second.
     (
@@ -216,7 +226,7 @@ const LISTS: [(&str, u8, &str); 10] = [
 {"first":1,"voters":[[1,2],[3]],"event":"started"}
 "#,
         0,
-        "safe: 1 events, 3 voters, 0 terms with a leader, 0 committed, 0 votes sent again\n",
+        "safe: 1 event, 3 servers, 0 terms with a leader, 0 committed, 0 membership changes\n",
     ),
     (
         r#"{"event":"started","voters":[[1,2],[3]]}
@@ -249,7 +259,7 @@ const LISTS: [(&str, u8, &str); 10] = [
 --
 "#,
         0,
-        "safe: 0 events, 1 voters, 0 terms with a leader, 0 committed, 0 votes sent again\n",
+        "safe: 0 events, 1 server, 0 terms with a leader, 0 committed, 0 membership changes\n",
     ),
 ];
 

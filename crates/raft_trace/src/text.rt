@@ -1,24 +1,77 @@
 //! The texts of answers.
 ghost use Rattle.std.specs.Prelude.{◌<◌, IfOk};
 
-use crate::counts::Counts;
 use crate::fault::Fault;
-use crate::field::{event_name, value_of};
+use crate::field::{event_name, number, value_of};
+use crate::judge::Judge;
 use raft_safety::checker::Violation;
 use serde_json::Value;
 use std::alloc::{AllocError, Global};
 
-/// Writes the answer that a run is safe.
-pub fn push_safe(answer: &mut String, counts: &Counts) -> Result<(), AllocError> {
-    writeln!(
+/// Writes the answer that a run is safe, and what was left out or filled in, if anything was.
+pub fn push_safe(alloc: Global, answer: &mut String, judge: &Judge) -> Result<(), AllocError> {
+    let counts = &judge.counts;
+    let held = &judge.checker.configs().held;
+    let servers = counts.server_count(alloc, held)? as u64;
+    let terms = counts.terms.len() as u64;
+    let changes = held.len() as u64;
+    answer.push_str("safe: ")?;
+    push_count(answer, counts.events, "event", "events")?;
+    answer.push_str(", ")?;
+    push_count(answer, servers, "server", "servers")?;
+    answer.push_str(", ")?;
+    push_count(answer, terms, "term with a leader", "terms with a leader")?;
+    answer.push_str(", ")?;
+    push_count(answer, counts.committed as u64, "committed", "committed")?;
+    answer.push_str(", ")?;
+    push_count(answer, changes, "membership change", "membership changes")?;
+    push_more(answer, counts.left_out, "vote left out", "votes left out")?;
+    push_more(
         answer,
-        "safe: {} events, {} voters, {} terms with a leader, {} committed, {} votes sent again",
-        counts.events,
-        counts.voters.len(),
-        counts.terms.len(),
-        counts.committed,
-        counts.left_out
+        counts.commits,
+        "commit inferred",
+        "commits inferred",
     )?;
+    push_more(
+        answer,
+        counts.acks,
+        "acknowledgement inferred",
+        "acknowledgements inferred",
+    )?;
+    push_more(
+        answer,
+        counts.appends,
+        "append inferred",
+        "appends inferred",
+    )?;
+    writeln!(answer, "")?;
+    Ok(())
+}
+
+/// Writes how many things were left out or filled in, if any were.
+fn push_more(answer: &mut String, count: u64, one: &str, many: &str) -> Result<(), AllocError> {
+    if count == 0 {
+        return Ok(());
+    }
+    answer.push_str(", ")?;
+    push_count(answer, count, one, many)
+}
+
+/// Writes how many things there are, by the word for one or for many.
+fn push_count(answer: &mut String, count: u64, one: &str, many: &str) -> Result<(), AllocError> {
+    push_number(answer, count)?;
+    write!(answer, " {}", if count == 1 { one } else { many })?;
+    Ok(())
+}
+
+/// Writes a number with commas between thousands.
+fn push_number(answer: &mut String, number: u64) -> Result<(), AllocError> {
+    if number < 1000 {
+        write!(answer, "{number}")?;
+        return Ok(());
+    }
+    push_number(answer, number / 1000)?;
+    write!(answer, ",{:03}", number % 1000)?;
     Ok(())
 }
 
@@ -38,6 +91,10 @@ pub fn push_fault(
             writeln!(answer, "{}", reason(is_first, &value))?;
             Ok(2)
         }
+        Fault::Skips(next) => {
+            push_skip(answer, &value, next)?;
+            Ok(1)
+        }
         Fault::Refused(Violation::OutOfMemory) => {
             writeln!(answer, "out of memory")?;
             Ok(3)
@@ -48,6 +105,25 @@ pub fn push_fault(
             Ok(1)
         }
     }
+}
+
+/// Writes that an entry has not the next index of its leader.
+fn push_skip(answer: &mut String, value: &Value, next: u64) -> Result<(), AllocError> {
+    let missing = Value::Null;
+    let leader = value.get("leader").unwrap_or(&missing);
+    let term = value.get("term").unwrap_or(&missing);
+    let index = number(value, "index").unwrap_or(0);
+    let reason = if next < index {
+        "so a line is missing"
+    } else {
+        "so the leader has it already"
+    };
+    writeln!(
+        answer,
+        "leader {leader} writes index {index} in term {term}: its last entry has index {}, {reason}",
+        next.saturating_sub(1)
+    )?;
+    Ok(())
 }
 
 /// Returns why the value of a line is no event.
@@ -72,10 +148,10 @@ fn reason(is_first: bool, value: &Value) -> &'static str {
         }
         "restarted" => "`restarted` needs the text or number `server`, and the number `index`",
         "wrote" => {
-            "`wrote` needs the texts or numbers `leader` and `content`, the number `term`, and no `voters`"
+            "`wrote` needs the texts or numbers `leader` and `content`, the number `term`, a number `index` or none, and lists of texts or numbers `voters` or none; a content has one list of voters"
         }
         "committed" => {
-            "`committed` needs the text or number `leader`, and the numbers `term` and `index`"
+            "`committed` needs the text or number `leader`, the numbers `term` and `index`, and a number `counted_at` or none"
         }
         "applied" => "`applied` needs the text or number `server`, and the number `index`",
         _ => "there is no event of this name",

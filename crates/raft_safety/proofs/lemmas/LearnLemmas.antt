@@ -700,3 +700,30 @@ module _ {T ID D Q V : Type 0} (rank : T → ℕ) (same_term : T → T → Bool)
     grown initial2 held2 is is_more es p without keeps =
         rw (is, is_more) (keeps_still (member_tests initial held) (member_tests initial more).config_of
         (member_tests initial more).quorum_of (member_tests initial more).intersect d agree es p without keeps)
+
+    agree_back : Agree (member_tests initial more) (member_tests initial held).config_of (member_tests initial held).quorum_of
+        (member_tests initial held).intersect d
+    agree_back = record {
+      config = λ x h. sym (agree.config x h);
+      named = λ x m e. config_named (λ y. list_any (λ p. same p.0 y) more) x m e;
+      quorum = λ m h set. sym (agree.quorum m (is_other_back m h) set);
+      meet = λ m n h g. sym (agree.meet m n (is_other_back m h) (is_other_back n g));
+      initial = tt;
+    }
+      where
+        is_other_back : (m : Option D)
+            → IsOther (member_tests initial more) (member_tests initial held).config_of (member_tests initial held).quorum_of
+            (member_tests initial held).intersect d m
+            → IsOther (member_tests initial held) (member_tests initial more).config_of (member_tests initial more).quorum_of
+            (member_tests initial more).intersect d m
+        is_other_back None h = tt
+        is_other_back (Some x) h = h
+
+    -- the last membership is forgotten
+    pub shrunk : (initial2 : List Q) (held2 last : List (D × V)) → initial2 ≡ initial → held2 ≡ held → last ≡ more
+        → (es : List (TraceEvent T ID D)) (p : Parts T ID D) → AreWithout same p.logs d
+        → Keeps (member_tests initial last) es p → Keeps (member_tests initial2 held2) es p
+    shrunk initial2 held2 last is is_held is_more es p without keeps =
+        rw (is, is_held) (keeps_still (member_tests initial more) (member_tests initial held).config_of
+        (member_tests initial held).quorum_of (member_tests initial held).intersect d agree_back es p without
+        (rw is_more at keeps))

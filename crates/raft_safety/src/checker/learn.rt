@@ -1,6 +1,7 @@
 //! Memberships that become known while a cluster runs.
-ghost use Rattle.std.specs.Prelude.{◌≡◌, ◌++◌, ◌∷◌, [], OnErr, OnOk};
-ghost use Rattle.raft_safety.specs.Checker.{KeepsAlso, Learns, configs_of, kept_by, tests_of};
+ghost use Rattle.std.specs.Prelude.{◌≡◌, ◌++◌, ◌∷◌, [], List, OnErr, OnOk};
+ghost use Rattle.std.specs.Global.{Vec};
+ghost use Rattle.raft_safety.specs.Checker.{IsUnused, KeepsAlso, Learns, OfAll, configs_of, kept_by, tests_of};
 ghost use Rattle.raft_safety.specs.declared.checker.learn.LearnError.TheVariants.{OutOfMemory};
 
 use super::Checker;
@@ -66,5 +67,28 @@ impl<T: Term, N: Copy + Ord, D: Copy + Eq> Checker<T, N, D, Memberships<N, D>> {
         }
         self.configs.hold(content, configs)?;
         Ok(())
+    }
+
+    /// Forgets the membership that was learned last, unless an entry of its content was recorded. An
+    /// engine calls this if the event for which it learned the membership is refused.
+    pub fn forget(&mut self)
+        ensures keeps { KeepsAlso (tests_of T.Term N.PartialEq D.PartialEq
+            ⟦<Memberships<N, D> as Configs<N, D>>⟧ (configs_of self.old)) (tests_of T.Term
+            N.PartialEq D.PartialEq ⟦<Memberships<N, D> as Configs<N, D>>⟧ (configs_of self.new))
+            (kept_by self.old) (kept_by self.new) }
+        ensures forgotten { (before : List (D × Vec (Vec N))) → (m : D × Vec (Vec N)) →
+            (configs_of self.old).held.items ≡ before ++ m ∷ [] → OfAll (tests_of T.Term
+            N.PartialEq D.PartialEq ⟦<Memberships<N, D> as Configs<N, D>>⟧ (configs_of self.old))
+            (kept_by self.old) (λ es. IsUnused D.eq m.0 es →
+            (configs_of self.new).held.items ≡ before) }
+        ensures initial { (configs_of self.new).initial ≡ (configs_of self.old).initial }
+    {
+        let Some(content) = self.configs.last_content() else {
+            return;
+        };
+        if self.logs.has_content(content) {
+            return;
+        }
+        self.configs.remove_last();
     }
 }

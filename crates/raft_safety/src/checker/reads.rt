@@ -1,11 +1,15 @@
 //! What a checker has recorded of leaders.
-ghost use Rattle.std.specs.Prelude.{◌≡◌, ℕ, IfOk, IfSome, length, take};
-ghost use Rattle.raft_safety.specs.Checker.{kept_by};
+ghost use Rattle.std.specs.Prelude.{◌≡◌, ℕ, IfOk, IfSome, length, take, true};
+ghost use Rattle.std.specs.List.{position};
+ghost use Rattle.raft_safety.specs.Checker.{OfAll, configs_of, entry_at, if_campaigned, kept_by, tests_of};
 ghost use Rattle.raft_safety.specs.Inner.Logs.{log_at};
+ghost use Rattle.raft_safety.specs.Trace.{candidate_log_in, has_campaigned, leader_log_in, log_in};
 
 use super::Checker;
 use super::configs::Configs;
+use super::logs::Logs;
 use super::places::leader_at;
+use super::server::Server;
 use crate::entry::Entry;
 use crate::term::Term;
 use std::alloc::{AllocError, Global};
@@ -40,4 +44,98 @@ impl<T: Term, N: Copy + Eq, D: Copy + Eq, C: Configs<N, D> + Drop> Checker<T, N,
         }
         Ok(Some(entries))
     }
+
+    /// Returns the configs.
+    pub fn configs(&self) -> &C
+        ensures { result.now ≡ configs_of self.now }
+    {
+        &self.configs
+    }
+
+    /// Returns how many entries the log of a candidate or leader of a term has, if it has campaigned.
+    pub fn leader_len(&self, term: T, id: N) -> Option<usize>
+        ensures { let k = tests_of T.Term N.PartialEq D.PartialEq C.Configs (configs_of self.now) in
+            OfAll k (kept_by self.now) (λ es. result
+            ≡ if_campaigned k es term id (length (leader_log_in k es term id))) }
+    {
+        match leader_at(&self.leaders, &self.places, term, id) {
+            Some(j) => Some(self.logs.len(self.leaders[j].log)),
+            None => None,
+        }
+    }
+
+    /// Returns how many entries the log had with which a candidate of a term asked for votes, if it
+    /// has campaigned. A leader has written the later ones in the term.
+    pub fn leader_start(&self, term: T, id: N) -> Option<usize>
+        ensures { let k = tests_of T.Term N.PartialEq D.PartialEq C.Configs (configs_of self.now) in
+            OfAll k (kept_by self.now) (λ es. result
+            ≡ if_campaigned k es term id (length (candidate_log_in k es term id))) }
+    {
+        match leader_at(&self.leaders, &self.places, term, id) {
+            Some(j) => Some(self.leaders[j].start),
+            None => None,
+        }
+    }
+
+    /// Returns the last of so many first entries of the log of a candidate or leader of a term, if it
+    /// has so many.
+    pub fn leader_entry(&self, term: T, id: N, len: usize) -> Option<Entry<T, D>>
+        ensures { let k = tests_of T.Term N.PartialEq D.PartialEq C.Configs (configs_of self.now) in
+            OfAll k (kept_by self.now) (λ es. result ≡ entry_at len (leader_log_in k es term id)) }
+    {
+        match leader_at(&self.leaders, &self.places, term, id) {
+            Some(j) => entry_at(&self.logs, self.leaders[j].log, len),
+            None => None,
+        }
+    }
+
+    /// Returns the last of so many first entries of the log of a server, if it has so many.
+    pub fn server_entry(&self, id: N, len: usize) -> Option<Entry<T, D>>
+        ensures { let k = tests_of T.Term N.PartialEq D.PartialEq C.Configs (configs_of self.now) in
+            OfAll k (kept_by self.now) (λ es. result ≡ entry_at len (log_in k es id)) }
+    {
+        match place_of(&self.servers, id) {
+            Some(i) => entry_at(&self.logs, self.servers[i].log, len),
+            None => None,
+        }
+    }
+
+    /// Returns the term and the id of a candidate or leader. The newest one is number 0.
+    pub fn newest_leader(&self, number: usize) -> Option<(T, N)>
+        ensures { let k = tests_of T.Term N.PartialEq D.PartialEq C.Configs (configs_of self.now) in
+            IfSome result (λ l. OfAll k (kept_by self.now) (λ es.
+            has_campaigned k l.0 l.1 es ≡ true)) }
+    {
+        if number < self.leaders.len() {
+            let leader = &self.leaders[number];
+            return Some((leader.term, leader.id));
+        }
+        None
+    }
+}
+
+/// Returns the last of so many first entries of a log, if it has so many.
+fn entry_at<T: Copy + Eq, D: Copy + Eq>(
+    logs: &Logs<T, D>,
+    log: usize,
+    len: usize,
+) -> Option<Entry<T, D>>
+    ensures { result ≡ entry_at len (log_at logs.now log) }
+{
+    if logs.len(log) < len {
+        return None;
+    }
+    logs.last(logs.first(log, len))
+}
+
+/// Returns the position of a server, if anything is kept of it.
+fn place_of<N: Copy + Eq>(servers: &[Server<N>], id: N) -> Option<usize>
+    ensures { result ≡ position (λ s. N.eq s.id id) servers.now }
+{
+    for (i, server) in servers.iter().enumerate() {
+        if server.id == id {
+            return Some(i);
+        }
+    }
+    None
 }

@@ -216,14 +216,13 @@ module _ (tests : Memberships ℕ ℕ → Tests ℕ ℕ ℕ (Option ℕ)) where
     members = configs_of judge.checker;
     first = judge.first;
     number_of = numbering judge.names;
-    apart = has.taken.table.apart;
+    apart = has.taken.keeps.table.apart;
     starts = has.starts;
-    no_changes = has.taken.no_changes;
     trace = has.taken.trace;
     is_trace = has.taken.is_trace;
-    allowed = has.taken.keeps.seen.allowed;
-    safe = law (tests (configs_of judge.checker)) has.taken.exact has.taken.trace
-        (λ t u in_t in_u e. ranks (configs_of judge.checker) t u e) has.taken.keeps.seen.allowed;
+    allowed = has.taken.keeps.keeps.seen.allowed;
+    safe = law (tests (configs_of judge.checker)) has.taken.keeps.exact has.taken.trace
+        (λ t u in_t in_u e. ranks (configs_of judge.checker) t u e) has.taken.keeps.keeps.seen.allowed;
   }
 
   -- a judge has judged all lines of lists

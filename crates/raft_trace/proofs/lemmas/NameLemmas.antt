@@ -48,10 +48,10 @@ use Rattle.raft_safety.specs.Trace.{
   Committed,
   Applied,
 }
-use Rattle.raft_trace.specs.Fields.{IsConfig, IsEntry, IsId, SayEach}
+use Rattle.raft_trace.specs.Fields.{HasConfigs, IsConfig, IsEntry, IsId, SayEach}
 use Rattle.raft_trace.specs.Line.{Says, SaysEntries}
 use Rattle.raft_trace.specs.Names.{Extends, HasNumber, IsName, IsTable, Learns, Name, Number, Numbering, Text, numbering}
-use Rattle.raft_trace.specs.Run.{AddsLine, IsTraceOf, SaysStart}
+use Rattle.raft_trace.specs.Run.{AddsLine, Held, IsTraceOf, SaysMembership, SaysStart}
 use Rattle.raft_trace.specs.declared.names.Names.{Names}
 
 -- ---- a longer table
@@ -195,7 +195,7 @@ module _ (old new : Numbering) (more : Extends old new) where
   entries first d n sent (inr h) = inr h
 
   -- what a line says stays so with more numbers
-  says : (first : ℕ) (d : Data) (e : TraceEvent ℕ ℕ ℕ) → Says old first d e → Says new first d e
+  pub says : (first : ℕ) (d : Data) (e : TraceEvent ℕ ℕ ℕ) → Says old first d e → Says new first d e
   says first d (Campaigned s t) h = (h.0, is_id (codes "server") s d h.1, h.2)
   says first d (Granted s t c) h =
       (h.0, is_id (codes "server") s d h.1, h.2, is_id (codes "candidate") c d h.3)
@@ -206,20 +206,45 @@ module _ (old new : Numbering) (more : Extends old new) where
   says first d (Restarted s n) h = (h.0, is_id (codes "server") s d h.1, h.2)
   says first d (Wrote c t e) h =
       (h.0, is_id (codes "leader") c d h.1, h.2, h.3, is_id (codes "content") e.content d h.4)
-  says first d (Committed c t n m) h = (h.0, is_id (codes "leader") c d h.1, h.2, h.3)
+  says first d (Committed c t n m) h = (h.0, is_id (codes "leader") c d h.1, h.2, h.3, h.4)
   says first d (Applied s t c n) h = (h.0, is_id (codes "server") s d h.1, h.2)
 
-  adds_line : (first : ℕ) (line : List ℕ) (before after : List (TraceEvent ℕ ℕ ℕ))
-      → AddsLine old first line before after → AddsLine new first line before after
-  adds_line first line before after (inl h) = inl h
-  adds_line first line before after (inr h) = inr (h.0, h.1, h.2, says first h.0 h.1 h.3, h.4)
+  has_configs : (d : Data) (configs : List (Vec ℕ)) → HasConfigs old d configs → HasConfigs new d configs
+  has_configs d configs h = (h.0, h.1, say_each (IsConfig old) (IsConfig new) config h.0 configs h.2)
+
+  -- the membership that a line says stays so with more numbers
+  pub says_membership : (d : Data) (e : TraceEvent ℕ ℕ ℕ) (m : Option Held) → SaysMembership old d e m
+      → SaysMembership new d e m
+  says_membership d (Campaigned s t) None h = h
+  says_membership d (Campaigned s t) (Some m) h = h
+  says_membership d (Granted s t c) None h = h
+  says_membership d (Granted s t c) (Some m) h = h
+  says_membership d (Appended s t c n sent) None h = h
+  says_membership d (Appended s t c n sent) (Some m) h = h
+  says_membership d (Acked s t c n) None h = h
+  says_membership d (Acked s t c n) (Some m) h = h
+  says_membership d (Restarted s n) None h = h
+  says_membership d (Restarted s n) (Some m) h = h
+  says_membership d (Wrote c t e) None h = h
+  says_membership d (Wrote c t e) (Some m) h = (h.0, has_configs d m.1.items h.1)
+  says_membership d (Committed c t n k) None h = h
+  says_membership d (Committed c t n k) (Some m) h = h
+  says_membership d (Applied s t c n) None h = h
+  says_membership d (Applied s t c n) (Some m) h = h
+
+  adds_line : (first : ℕ) (line : List ℕ) (known : List Held) (before : List (TraceEvent ℕ ℕ ℕ)) (held : List Held)
+      (after : List (TraceEvent ℕ ℕ ℕ)) → AddsLine old first line known before held after
+      → AddsLine new first line known before held after
+  adds_line first line known before held after (inl h) = inl h
+  adds_line first line known before held after (inr h) =
+      inr (h.0, h.1, h.2, h.3, says first h.0 h.1 h.4, says_membership h.0 h.1 h.2 h.5, h.6, h.7)
 
   -- the trace of lines stays so with more numbers
-  pub trace_more : (first : ℕ) (taken : List (List ℕ)) (es : List (TraceEvent ℕ ℕ ℕ))
-      → IsTraceOf old first taken es → IsTraceOf new first taken es
-  trace_more first [] es h = h
-  trace_more first (line ∷ taken) es h =
-      (h.0, trace_more first taken h.0 h.1, (h.2.0, adds_line first line h.0 h.2.0 h.2.1, h.2.2))
+  pub trace_more : (first : ℕ) (taken : List (List ℕ)) (held : List Held) (es : List (TraceEvent ℕ ℕ ℕ))
+      → IsTraceOf old first taken held es → IsTraceOf new first taken held es
+  trace_more first [] held es h = h
+  trace_more first (line ∷ taken) held es h =
+      (h.0, h.1, trace_more first taken h.0 h.1 h.2, (h.3.0, adds_line first line h.0 h.1 held h.3.0 h.3.1, h.3.2))
 
   -- what the first line says stays so with more numbers
   pub start_more : (line : List ℕ) (configs : List (Vec ℕ)) (first : ℕ) → SaysStart old line configs first
@@ -228,6 +253,6 @@ module _ (old new : Numbering) (more : Extends old new) where
     h.0,
     h.1,
     h.2,
-    (h.3.0, h.3.1, say_each (IsConfig old) (IsConfig new) config h.3.0 configs h.3.2),
+    has_configs h.0 configs h.3,
     h.4,
   )

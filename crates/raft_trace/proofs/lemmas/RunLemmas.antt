@@ -1,17 +1,22 @@
 -- Lines that a judge takes.
-use Rattle.std.specs.Prelude.{◌≡◌, ℕ, List, [], ◌∷◌, ◌++◌, Option, Some, Result, Ok, Err, IfErr}
-use Rattle.std.proofs.Common.{refl, sym, ap, subst, ◌∙◌, inl, inr, append_assoc}
-use Rattle.std.proofs.lemmas.List.Elements.{All-append, All-nil}
+use Rattle.std.specs.Prelude.{◌≡◌, ◌<◌, ℕ, length, get_or, Bool, List, [], ◌∷◌, ◌++◌, Option, Some, None, Result, Ok, Err, IfErr}
+use Rattle.std.proofs.Common.{refl, sym, ap, subst, ◌∙◌, inl, inr, append_assoc, arith, zero, suc}
+use Rattle.std.proofs.lemmas.List.Elements.{All-append, All-cons, All-nil}
+use Rattle.std.specs.Global.{Vec}
 use Rattle.serde_json.specs.Data.{Data}
 use Rattle.serde_json.specs.Read.{read}
-use Rattle.raft_safety.specs.Trace.{AreExact, Tests, TraceEvent}
-use Rattle.raft_safety.specs.Checker.{Keeps as KeepsEvents, configs_of, kept_by}
+use Rattle.raft_safety.specs.Trace.{AreExact, Tests, TraceEvent, Campaigned, Granted, Appended, Acked, Restarted, Wrote, Committed, Applied}
+use Rattle.raft_safety.specs.Checker.{IsUnused, Keeps as KeepsEvents, KeepsAlso, OfAll, configs_of, kept_by}
+use Rattle.raft_safety.specs.Ranks.{IsAmong}
 use Rattle.raft_safety.specs.declared.memberships.Memberships.{Memberships}
+use Rattle.raft_trace.specs.Fields.{HasConfigs}
 use Rattle.raft_trace.specs.Line.{Says}
-use Rattle.raft_trace.specs.Run.{Fills, FillsIn, HasTaken, IsFilledIn, IsStarted, IsTraceOf, Refuses, SaysStart, Takes, TakesEvent}
-use Rattle.raft_trace.specs.Names.{Extends, IsTable, Learns, Numbering, numbering}
+use Rattle.raft_trace.specs.Run.{AddsLine, Fills, FillsIn, GoesOn, Held, IsFilledIn, IsStarted, IsTraceOf, KeepsMore, KeepsTrace, Refuses, SaysMembership, SaysStart, Stays, Takes, TakesEvent, TakesSaid, held_by}
 use Rattle.raft_trace.specs.declared.chart.Chart.{Chart}
+use Rattle.raft_trace.specs.declared.counts.Counts.{Counts}
 use Rattle.raft_trace.specs.declared.judge.Judge.{Judge}
+use Rattle.raft_trace.specs.Names.{IsTable, Learns, Numbering, numbering}
+use Rattle.raft_trace.specs.Votes.{AreVotesIn}
 use Rattle.raft_trace.specs.declared.names.Names.{Names}
 use Rattle.raft_trace.proofs.lemmas.NameLemmas.{trace_more}
 use Rattle.raft_trace.proofs.lemmas.VoteLemmas.{no_votes_in}
@@ -20,6 +25,25 @@ use Rattle.raft_trace.proofs.lemmas.VoteLemmas.{no_votes_in}
 pub whatever_err : {T E : Type 0} → (r : Result T E) (P : E → Type 0) → ((e : E) → P e) → IfErr r P
 whatever_err (Ok x) P h = tt
 whatever_err (Err e) P h = h e
+
+-- an item of a list is among them
+pub among_at : {X : Type 0} (xs : List X) (i : ℕ) (x : X) → i < length xs → x ≡ get_or xs i x → IsAmong x xs
+among_at [] i x within is = absurd (omega arith)
+among_at (y ∷ ys) zero x within is = inl is
+among_at (y ∷ ys) (suc i) x within is = inr (among_at ys i x (omega arith) is)
+
+-- a line says a membership if it says an equal one
+pub says_same : (number_of : Numbering) (d : Data) (e : TraceEvent ℕ ℕ ℕ) (n : ℕ) (a b : Vec (Vec ℕ))
+    → (HasConfigs number_of d b.items → HasConfigs number_of d a.items) → SaysMembership number_of d e (Some (n, b))
+    → SaysMembership number_of d e (Some (n, a))
+says_same number_of d (Campaigned s t) n a b same says = says
+says_same number_of d (Granted s t c) n a b same says = says
+says_same number_of d (Appended s t c m sent) n a b same says = says
+says_same number_of d (Acked s t c m) n a b same says = says
+says_same number_of d (Restarted s m) n a b same says = says
+says_same number_of d (Wrote c t e) n a b same says = (says.0, same says.1)
+says_same number_of d (Committed c t m k) n a b same says = says
+says_same number_of d (Applied s t c m) n a b same says = says
 
 -- ---- events that are filled in
 
@@ -34,23 +58,22 @@ fills_more before es after one two = (
   two.2 ∙ ap (λ (l : List (TraceEvent ℕ ℕ ℕ)). two.0 ++ l) one.2 ∙ sym (append_assoc two.0 one.0 before),
 )
 
+pub fills_one : (e : TraceEvent ℕ ℕ ℕ) (es : List (TraceEvent ℕ ℕ ℕ)) → IsFilledIn e → FillsIn es (e ∷ es)
+fills_one e es may = (e ∷ [], All-cons IsFilledIn e [] may (All-nil IsFilledIn), refl)
+
 -- events that are filled in after a trace of lines are part of a trace of these lines
-pub trace_fills : (number_of : Numbering) (first : ℕ) (taken : List (List ℕ)) (es after : List (TraceEvent ℕ ℕ ℕ))
-    → IsTraceOf number_of first taken es → FillsIn es after → IsTraceOf number_of first taken after
-trace_fills number_of first [] es after is fills = fills_more [] es after is fills
-trace_fills number_of first (line ∷ taken) es after is fills =
-    (is.0, is.1, (is.2.0, is.2.1, fills_more is.2.0 es after is.2.2 fills))
+pub trace_fills : (number_of : Numbering) (first : ℕ) (taken : List (List ℕ)) (held : List Held)
+    (es after : List (TraceEvent ℕ ℕ ℕ)) → IsTraceOf number_of first taken held es → FillsIn es after
+    → IsTraceOf number_of first taken held after
+trace_fills number_of first [] held es after is fills = (is.0, fills_more [] es after is.1 fills)
+trace_fills number_of first (line ∷ taken) held es after is fills =
+    (is.0, is.1, is.2, (is.3.0, is.3.1, fills_more is.3.0 es after is.3.2 fills))
 
--- the trace of lines stays so if a judge reads lines as before
-trace_same : (old new : Judge) (taken : List (List ℕ)) (es : List (TraceEvent ℕ ℕ ℕ)) → new.first ≡ old.first
-    → new.names ≡ old.names → IsTraceOf (numbering old.names) old.first taken es
-    → IsTraceOf (numbering new.names) new.first taken es
-trace_same old new taken es first names is =
-    subst (λ (t : Names). IsTraceOf (numbering t) new.first taken es) (sym names)
-    (subst (λ (n : ℕ). IsTraceOf (numbering old.names) n taken es) (sym first) is)
-
-extends_same : (old new : Names) → new ≡ old → Extends (numbering old) (numbering new)
-extends_same old new same = subst (λ (t : Names). Extends (numbering old) (numbering t)) (sym same) (λ a n is. is)
+-- votes that are in a trace are in it once events are filled in
+pub votes_filled : (votes : List (ℕ × (ℕ × ℕ))) (filled es : List (TraceEvent ℕ ℕ ℕ)) → AreVotesIn votes es
+    → AreVotesIn votes (filled ++ es)
+votes_filled votes [] es are = are
+votes_filled votes (e ∷ filled) es are = λ s v is. inr (votes_filled votes filled es are s v is)
 
 module _ (tests : Memberships ℕ ℕ → Tests ℕ ℕ ℕ (Option ℕ)) where
   -- a judge that is made has taken no line
@@ -62,13 +85,14 @@ module _ (tests : Memberships ℕ ℕ → Tests ℕ ℕ ℕ (Option ℕ)) where
   started line judge members is says none table exact keeps no_votes = (
     subst (λ (m : Memberships ℕ ℕ). SaysStart (numbering judge.names) line m.initial.items judge.first) (sym is) says,
     record {
-      exact = subst (λ (m : Memberships ℕ ℕ). AreExact (tests m)) (sym is) exact;
-      table = table;
       trace = [];
-      is_trace = fills_none [];
-      no_changes = ap (λ (m : Memberships ℕ ℕ). m.held.items) is ∙ none;
-      keeps = subst (λ (m : Memberships ℕ ℕ). KeepsEvents (tests m) [] (kept_by judge.checker)) (sym is) keeps;
-      votes = no_votes_in judge.counts.votes.entries [] no_votes;
+      is_trace = (ap (λ (m : Memberships ℕ ℕ). m.held.items) is ∙ none, fills_none []);
+      keeps = record {
+        exact = subst (λ (m : Memberships ℕ ℕ). AreExact (tests m)) (sym is) exact;
+        table = table;
+        keeps = subst (λ (m : Memberships ℕ ℕ). KeepsEvents (tests m) [] (kept_by judge.checker)) (sym is) keeps;
+        votes = no_votes_in judge.counts.votes.entries [] no_votes;
+      };
     },
   )
 
@@ -77,92 +101,215 @@ module _ (tests : Memberships ℕ ℕ → Tests ℕ ℕ ℕ (Option ℕ)) where
   takes_empty line judge is = (
     (refl, refl, λ a n is. is),
     λ taken has. record {
-      exact = has.exact;
-      table = has.table;
       trace = has.trace;
-      is_trace = (has.trace, has.is_trace, (has.trace, inl (is, refl), fills_none has.trace));
-      no_changes = has.no_changes;
+      is_trace = (held_by tests judge, has.trace, has.is_trace, (has.trace, inl (is, refl, refl), fills_none has.trace));
       keeps = has.keeps;
-      votes = has.votes;
     },
   )
 
-  -- a line is taken by taking the event that it says
-  pub takes_event : (line : List ℕ) (old new : Judge) (d : Data) (e : TraceEvent ℕ ℕ ℕ) → read line ≡ Some d
-      → Says (numbering old.names) old.first d e → TakesEvent tests e old new → Takes tests line old new
-  takes_event line old new d e reads says taken_event = (
-    (
-      ap (λ (m : Memberships ℕ ℕ). m.initial) taken_event.0,
-      taken_event.1,
-      extends_same old.names new.names taken_event.2,
-    ),
-    λ taken has.
-        let next = taken_event.3 has.exact has.trace has.keeps has.votes in
-        let same : tests (configs_of old.checker) ≡ tests (configs_of new.checker) = ap tests (sym taken_event.0) in
-        record {
-          exact = subst (λ (k : Tests ℕ ℕ ℕ (Option ℕ)). AreExact k) same has.exact;
-          table = subst (λ (t : Names). IsTable t) (sym taken_event.2) has.table;
-          trace = next.0;
-          is_trace = trace_same old new (line ∷ taken) next.0 taken_event.1 taken_event.2 (
-            next.1.0,
-            trace_fills (numbering old.names) old.first taken has.trace next.1.0 has.is_trace next.1.1,
-            (next.0, inr (d, e, reads, says, next.1.2), fills_none next.0),
-          );
-          no_changes = ap (λ (m : Memberships ℕ ℕ). m.held.items) taken_event.0 ∙ has.no_changes;
-          keeps = subst (λ (k : Tests ℕ ℕ ℕ (Option ℕ)). KeepsEvents k next.0 (kept_by new.checker)) same next.2;
-          votes = next.3;
-        },
+  -- ---- one step after the other
+
+  pub goes_on : (old mid new : Judge) → GoesOn tests old mid → GoesOn tests mid new → GoesOn tests old new
+  goes_on old mid new one two =
+      (two.0 ∙ one.0, two.1 ∙ one.1, λ a n is. two.2 a n (one.2 a n is))
+
+  goes_still : (judge : Judge) → GoesOn tests judge judge
+  goes_still judge = (refl, refl, λ a n is. is)
+
+  pub fills_nothing : (judge : Judge) → Fills tests judge judge
+  fills_nothing judge = (goes_still judge, λ es keeps. (es, fills_none es, refl, keeps))
+
+  pub fills_both : (old mid new : Judge) → Fills tests old mid → Fills tests mid new → Fills tests old new
+  fills_both old mid new one two = (
+    goes_on old mid new one.0 two.0,
+    λ es keeps.
+        let first = one.1 es keeps in
+        let next = two.1 first.0 first.3 in
+        (next.0, fills_more es first.0 next.0 first.1 next.1, next.2 ∙ first.2, next.3),
   )
 
-  -- a line is refused: events may have been filled in
+  pub fills_stays : (old mid new : Judge) → Fills tests old mid → Stays tests mid new → Fills tests old new
+  fills_stays old mid new one two = (
+    goes_on old mid new one.0 two.0,
+    λ es keeps.
+        let first = one.1 es keeps in
+        let next = two.1 first.0 first.3 in (
+          next.0,
+          subst (λ (l : List (TraceEvent ℕ ℕ ℕ)). FillsIn es l) (sym next.1) first.1,
+          next.2 ∙ first.2,
+          next.3,
+        ),
+  )
+
+  -- the trace of lines stays so for a judge that goes on
+  trace_on : (old new : Judge) (taken : List (List ℕ)) (held : List Held) (es : List (TraceEvent ℕ ℕ ℕ))
+      → GoesOn tests old new → IsTraceOf (numbering old.names) old.first taken held es
+      → IsTraceOf (numbering new.names) new.first taken held es
+  trace_on old new taken held es goes is =
+      subst (λ (n : ℕ). IsTraceOf (numbering new.names) n taken held es) (sym goes.1)
+      (trace_more (numbering old.names) (numbering new.names) goes.2 old.first taken held es is)
+
+  -- a line is refused, once events are filled in
   pub refuses : (old new : Judge) → Fills tests old new → Refuses tests old new
   refuses old new fills = (
-    (ap (λ (m : Memberships ℕ ℕ). m.initial) fills.0, fills.1, extends_same old.names new.names fills.2),
+    fills.0,
     λ taken has.
-        let next = fills.3 has.exact has.trace has.keeps has.votes in
-        let same : tests (configs_of old.checker) ≡ tests (configs_of new.checker) = ap tests (sym fills.0) in
+        let next = fills.1 has.trace has.keeps in
         record {
-          exact = subst (λ (k : Tests ℕ ℕ ℕ (Option ℕ)). AreExact k) same has.exact;
-          table = subst (λ (t : Names). IsTable t) (sym fills.2) has.table;
           trace = next.0;
-          is_trace = trace_same old new taken next.0 fills.1 fills.2
-              (trace_fills (numbering old.names) old.first taken has.trace next.0 has.is_trace next.1);
-          no_changes = ap (λ (m : Memberships ℕ ℕ). m.held.items) fills.0 ∙ has.no_changes;
-          keeps = subst (λ (k : Tests ℕ ℕ ℕ (Option ℕ)). KeepsEvents k next.0 (kept_by new.checker)) same next.2;
-          votes = next.3;
+          is_trace = rw next.2 (trace_on old new taken (held_by tests old) next.0 fills.0
+              (trace_fills (numbering old.names) old.first taken (held_by tests old) has.trace next.0 has.is_trace next.1));
+          keeps = next.3;
         },
   )
 
-  -- a line that is refused at once
-  pub fills_nothing : (judge : Judge) → Fills tests judge judge
-  fills_nothing judge = (refl, refl, refl, λ exact es keeps votes. (es, fills_none es, keeps, votes))
+  pub stays_still : (judge : Judge) → Stays tests judge judge
+  stays_still judge = (goes_still judge, λ es keeps. (es, refl, refl, keeps))
 
-  -- a judge has taken the same lines after names have got numbers, and with any chart
-  learned : (taken : List (List ℕ)) (judge : Judge) (names : Names) (chart : Chart) → Learns judge.names names
-      → HasTaken tests taken judge → HasTaken tests taken (record judge { names = names; chart = chart })
-  learned taken judge names chart learns has = record {
-    exact = has.exact;
-    table = learns.1 has.table;
-    trace = has.trace;
-    is_trace = trace_more (numbering judge.names) (numbering names) learns.0 judge.first taken has.trace has.is_trace;
-    no_changes = has.no_changes;
-    keeps = has.keeps;
-    votes = has.votes;
+  takes_event : (line : List ℕ) (old mid new : Judge) (d : Data) (e : TraceEvent ℕ ℕ ℕ) (m : Option Held)
+      → Fills tests old mid → read line ≡ Some d → Says (numbering mid.names) mid.first d e
+      → SaysMembership (numbering mid.names) d e m → TakesEvent tests e m mid new → Takes tests line old new
+  takes_event line old mid new d e m fills reads says_e says_m takes = (
+    goes_on old mid new fills.0 takes.0,
+    λ taken has.
+        let before = fills.1 has.trace has.keeps in
+        let next = takes.1 before.0 before.3 in
+        let so_far : IsTraceOf (numbering mid.names) mid.first taken (held_by tests mid) before.0 =
+        rw before.2 (trace_on old mid taken (held_by tests old) before.0 fills.0
+        (trace_fills (numbering old.names) old.first taken (held_by tests old) has.trace before.0 has.is_trace before.1)) in
+        let added : AddsLine (numbering mid.names) mid.first line (held_by tests mid) before.0 (held_by tests new) next.0 =
+        inr (d, e, m, reads, says_e, says_m, next.2, next.1) in
+        record {
+          trace = next.0;
+          is_trace = trace_on mid new (line ∷ taken) (held_by tests new) next.0 takes.0
+              (held_by tests mid, before.0, so_far, (next.0, added, fills_none next.0));
+          keeps = next.3;
+        },
+  )
+
+  -- a line is taken by taking the event that it says, once events are filled in
+  pub takes_line : (line : List ℕ) (old mid new : Judge) (d : Data) → Fills tests old mid → read line ≡ Some d
+      → TakesSaid tests d mid new → Takes tests line old new
+  takes_line line old mid new d fills reads said =
+      takes_event line old mid new d said.0 said.1.0 fills reads said.1.1 said.1.2 said.1.3
+
+  -- ---- events that the checker is asked for
+
+  -- what a checker keeps by memberships, a judge keeps that has these
+  pub keeps_on : (old new : Judge) (es : List (TraceEvent ℕ ℕ ℕ)) → configs_of new.checker ≡ configs_of old.checker
+      → IsTable new.names → AreExact (tests (configs_of old.checker))
+      → KeepsEvents (tests (configs_of old.checker)) es (kept_by new.checker)
+      → AreVotesIn new.counts.votes.entries es → KeepsTrace tests new es
+  keeps_on old new es same table exact keeps votes = record {
+    exact = subst (λ (m : Memberships ℕ ℕ). AreExact (tests m)) (sym same) exact;
+    table = table;
+    keeps = subst (λ (m : Memberships ℕ ℕ). KeepsEvents (tests m) es (kept_by new.checker)) (sym same) keeps;
+    votes = votes;
   }
 
-  -- a line is taken after names have got numbers
-  pub takes_learned : (line : List ℕ) (old : Judge) (names : Names) (chart : Chart) (new : Judge)
-      → Learns old.names names → Takes tests line (record old { names = names; chart = chart }) new
-      → Takes tests line old new
-  takes_learned line old names chart new learns takes = (
-    (takes.0.0, takes.0.1, λ a n is. takes.0.2 a n (learns.0 a n is)),
-    λ taken has. takes.1 taken (learned taken old names chart learns has),
+  -- a judge that knows the same memberships, and keeps the events of another trace
+  pub keeps_more : (P : List (TraceEvent ℕ ℕ ℕ) → List (TraceEvent ℕ ℕ ℕ) → Type 0) (old new : Judge)
+      → configs_of new.checker ≡ configs_of old.checker → new.first ≡ old.first → new.names ≡ old.names
+      → ((es : List (TraceEvent ℕ ℕ ℕ)) → KeepsTrace tests old es
+      → (after : List (TraceEvent ℕ ℕ ℕ)) × P es after
+      × KeepsEvents (tests (configs_of old.checker)) after (kept_by new.checker)
+      × AreVotesIn new.counts.votes.entries after)
+      → KeepsMore tests P None old new
+  keeps_more P old new same first names more = (
+    (ap (λ (m : Memberships ℕ ℕ). m.initial) same, first, rw names (λ a n is. is)),
+    λ es keeps.
+        let next = more es keeps in (
+          next.0,
+          next.1,
+          ap (λ (m : Memberships ℕ ℕ). m.held.items) same,
+          keeps_on old new next.0 same (rw names keeps.table) keeps.exact next.2 next.3,
+        ),
   )
 
-  -- a line is refused after names have got numbers
-  pub refuses_learned : (old : Judge) (names : Names) (chart : Chart) (new : Judge) → Learns old.names names
-      → Refuses tests (record old { names = names; chart = chart }) new → Refuses tests old new
-  refuses_learned old names chart new learns refused = (
-    (refused.0.0, refused.0.1, λ a n is. refused.0.2 a n (learns.0 a n is)),
-    λ taken has. refused.1 taken (learned taken old names chart learns has),
+  -- ---- memberships that become known
+
+  -- what a judge keeps, it keeps by other memberships
+  keeps_also : (old new : Judge) (es : List (TraceEvent ℕ ℕ ℕ))
+      → KeepsAlso (tests (configs_of old.checker)) (tests (configs_of new.checker)) (kept_by old.checker) (kept_by new.checker)
+      → new.counts ≡ old.counts → new.names ≡ old.names → AreExact (tests (configs_of new.checker)) → KeepsTrace tests old es
+      → KeepsTrace tests new es
+  keeps_also old new es also same names exact keeps = record {
+    exact = exact;
+    table = rw names keeps.table;
+    keeps = also keeps.exact es keeps.keeps;
+    votes = subst (λ (c : Counts). AreVotesIn c.votes.entries es) (sym same) keeps.votes;
+  }
+
+  -- a judge learns a membership before it takes the event whose entry holds it
+  pub takes_new : (old mid new : Judge) (e : TraceEvent ℕ ℕ ℕ) (m : Held) → GoesOn tests old mid
+      → held_by tests mid ≡ held_by tests old ++ m ∷ []
+      → KeepsAlso (tests (configs_of old.checker)) (tests (configs_of mid.checker)) (kept_by old.checker) (kept_by mid.checker)
+      → mid.counts ≡ old.counts → mid.names ≡ old.names → AreExact (tests (configs_of mid.checker))
+      → TakesEvent tests e None mid new → TakesEvent tests e (Some m) old new
+  takes_new old mid new e m goes learned also same names exact takes = (
+    goes_on old mid new goes takes.0,
+    λ es keeps.
+        let next = takes.1 es (keeps_also old mid es also same names exact keeps) in
+        (next.0, next.1, inl (next.2 ∙ learned), next.3),
   )
+
+  -- a judge learns a membership, refuses the event whose entry holds it, and forgets the membership
+  pub stays_new : (same : ℕ → ℕ → Bool) (old mid refused new : Judge) (m : Held) → GoesOn tests old mid
+      → held_by tests mid ≡ held_by tests old ++ m ∷ []
+      → KeepsAlso (tests (configs_of old.checker)) (tests (configs_of mid.checker)) (kept_by old.checker) (kept_by mid.checker)
+      → OfAll (tests (configs_of old.checker)) (kept_by old.checker) (λ es. IsUnused same m.0 es)
+      → mid.counts ≡ old.counts → mid.names ≡ old.names → AreExact (tests (configs_of mid.checker)) → Stays tests mid refused
+      → GoesOn tests refused new
+      → KeepsAlso (tests (configs_of refused.checker)) (tests (configs_of new.checker)) (kept_by refused.checker)
+      (kept_by new.checker)
+      → ((before : List Held) (n : Held) → held_by tests refused ≡ before ++ n ∷ []
+      → OfAll (tests (configs_of refused.checker)) (kept_by refused.checker) (λ es. IsUnused same n.0 es → held_by tests new ≡ before))
+      → new.counts ≡ refused.counts → new.names ≡ refused.names → AreExact (tests (configs_of new.checker))
+      → Stays tests old new
+  stays_new same old mid refused new m goes learned also unused same_mid names_mid exact stays back forgets forgotten same_new
+      names_new exact_new = (
+        goes_on old refused new (goes_on old mid refused goes stays.0) back,
+        λ es keeps.
+            let next = stays.1 es (keeps_also old mid es also same_mid names_mid exact keeps) in
+            let still : IsUnused same m.0 next.0 = rw next.1 (unused keeps.exact es keeps.keeps) in (
+              next.0,
+              next.1,
+              forgotten (held_by tests old) m (next.2 ∙ learned) next.3.exact next.0 next.3.keeps still,
+              keeps_also refused new next.0 forgets same_new names_new exact_new next.3,
+            ),
+      )
+
+  -- an entry holds a membership that is known by its content already
+  pub takes_known : (old new : Judge) (e : TraceEvent ℕ ℕ ℕ) (m : Held) → IsAmong m (held_by tests old)
+      → TakesEvent tests e None old new → TakesEvent tests e (Some m) old new
+  takes_known old new e m is takes = (
+    takes.0,
+    λ es keeps. let next = takes.1 es keeps in (next.0, next.1, inr (is, next.2), next.3),
+  )
+
+  -- a judge does not learn a membership
+  pub stays_unlearned : (old new : Judge) → GoesOn tests old new → held_by tests new ≡ held_by tests old
+      → KeepsAlso (tests (configs_of old.checker)) (tests (configs_of new.checker)) (kept_by old.checker) (kept_by new.checker)
+      → new.counts ≡ old.counts → new.names ≡ old.names → AreExact (tests (configs_of new.checker)) → Stays tests old new
+  stays_unlearned old new goes held also same names exact =
+      (goes, λ es keeps. (es, refl, held, keeps_also old new es also same names exact keeps))
+
+  -- names get numbers, and the chart may be any
+  pub stays_named : (old : Judge) (names : Names) (chart : Chart) → Learns old.names names
+      → Stays tests old (record old { names = names; chart = chart })
+  stays_named old names chart learns = (
+    (refl, refl, learns.0),
+    λ es keeps. (
+      es,
+      refl,
+      refl,
+      record { exact = keeps.exact; table = learns.1 keeps.table; keeps = keeps.keeps; votes = keeps.votes },
+    ),
+  )
+
+  -- events are filled in after names have got numbers
+  pub fills_named : (old : Judge) (names : Names) (chart : Chart) (new : Judge) → Learns old.names names
+      → Fills tests (record old { names = names; chart = chart }) new → Fills tests old new
+  fills_named old names chart new learns fills =
+      let mid : Judge = record old { names = names; chart = chart } in
+      fills_both old mid new (fills_stays old old mid (fills_nothing old) (stays_named old names chart learns)) fills

@@ -6,7 +6,7 @@ use Rattle.std.proofs.Common.{sym, subst}
 use Rattle.std.proofs.lemmas.Bool.{and_parts}
 use Rattle.std.proofs.lemmas.Slice.Eq.{bytes_eq-Decides}
 use Rattle.serde_json.specs.Data.{Data, Items, no_items, item}
-use Rattle.raft_trace.specs.Fields.{IsConfig, IsFirst, SayEach}
+use Rattle.raft_trace.specs.Fields.{HasConfigs, IsConfig, IsFirst, SayEach}
 use Rattle.raft_trace.specs.Names.{AreApart, HasNumber, Numbering}
 use Rattle.raft_trace.specs.Run.{SayOneStart, SaysStart}
 
@@ -34,6 +34,11 @@ module _ (number_of : Numbering) where
       let both = and_parts (same_config a b) (pointwise same_config xs ys) same in
       (is_same_config d a b both.0 say.0, say_same_configs ds xs ys both.1 say.1)
 
+  -- a line that says configs says the same ones
+  pub same_configs : (d : Data) (xs ys : List (Vec ℕ)) → pointwise same_config xs ys ≡ true → HasConfigs number_of d ys
+      → HasConfigs number_of d xs
+  same_configs d xs ys same says = (says.0, says.1, say_same_configs says.0 xs ys same says.2)
+
   -- lines that say the same configs and the same first index
   pub say_one_start : AreApart number_of → (line other : List ℕ) (xs ys : List (Vec ℕ)) (first other_first : ℕ)
       → SaysStart number_of line xs first → SaysStart number_of other ys other_first → first ≡ other_first
@@ -49,7 +54,7 @@ module _ (number_of : Numbering) where
         other_says.0,
         other_says.1,
         other_says.2,
-        (other_says.3.0, other_says.3.1, say_same_configs other_says.3.0 xs ys same other_says.3.2),
+        same_configs other_says.0 xs ys same other_says.3,
         subst (λ (n : ℕ). IsFirst n other_says.0) (sym same_first) other_says.4,
       ),
     ),

@@ -29,6 +29,7 @@ const CHARTS: [(&str, &str); 2] = [
 {"event":"committed","leader":"n2","term":2,"index":2}
 {"event":"appended","server":"n1","term":2,"leader":"n2","prev":1,"entries":[[2,8]]}
 {"event":"applied","server":"10.0.0.3:2380","index":2}
+{"event":"wrote","leader":"n2","term":2,"content":10,"voters":[["n1","n2"]]}
 {"event":"acked","server":"n1","term":2,"leader":"n2","index":3}
 "#,
         "
@@ -39,7 +40,8 @@ number  n1          n2          10.0.0.3..  what happens
     15  L1  |aa     L2  |ab     F2  |ab     10.0.0.3.. installs a snapshot
     17  L1  |aa     L2  ab|     F2  |ab     n2 commits index 2
     18  F2  |ab     L2  ab|     F2  |ab     n1 truncates 1 of 2
-    20  F2  |ab     L2  ab|     F2  ab|     the run is refused here
+    20  F2  |ab     L2  ab|     F2  ab|     n2 changes to n1,n2
+    21  F2  |ab     L2  ab|     F2  ab|     the run is refused here
 ",
     ),
     // The eighth server has no column.

@@ -1,0 +1,149 @@
+-- What a checker returns of the logs of leaders and servers is what the events say.
+use Rattle.std.specs.Prelude.{◌≡◌, ◌<◌, ◌≤◌, ◌+◌, ℕ, Bool, true, false, Option, Some, None, List, [], ◌∷◌, ◌++◌, length, take, get_or, not, nat_le, nat_lt, if◌then◌else◌}
+use Rattle.std.specs.List.{position, position_or_len}
+use Rattle.std.proofs.Common.{refl, sym, ap, ◌∙◌, arith, zero, suc}
+use Rattle.std.proofs.lemmas.Bool.{lt-ltb}
+use Rattle.std.proofs.lemmas.List.{length-take-le, take_more}
+use Rattle.std.proofs.Math.Seq.{take-length}
+use Rattle.raft_safety.specs.Log.{Entry}
+use Rattle.raft_safety.specs.Trace.{
+  AreExact,
+  Tests,
+  TraceEvent,
+  candidate_log_in,
+  events_in,
+  has_campaigned,
+  leader_log_in,
+  log_in,
+  same_leader,
+}
+use Rattle.raft_safety.specs.Checker.{Keeps, entry_at, if_campaigned}
+use Rattle.raft_safety.specs.Events.{log_after}
+use Rattle.raft_safety.specs.Inner.CheckerState.{ServerState}
+use Rattle.raft_safety.specs.Inner.Kept.{Parts, leader_in, leaders_in, server_in, servers_in}
+use Rattle.raft_safety.specs.Inner.Seen.{find_server}
+use Rattle.raft_safety.specs.Inner.Logs.{log_at}
+use Rattle.raft_safety.specs.Memberships.{EndsWith}
+use Rattle.raft_safety.specs.declared.checker.leader.Leader.{Leader}
+use Rattle.raft_safety.specs.declared.checker.server.Server.{Server}
+use Rattle.raft_safety.proofs.lemmas.CheckedLeaderLemmas.{none_found}
+use Rattle.raft_safety.proofs.lemmas.CheckerLemmas.{leader_seen, no_leader_seen}
+use Rattle.raft_safety.proofs.lemmas.CheckerStepLemmas.{
+  leader_place_in,
+  place_map,
+  sees_leader_at,
+  sees_server_at,
+  unled,
+}
+
+-- the last of some memberships
+pub ends_at : {V D : Type 0} (held : List (D × V)) (i : ℕ) (m : D × V) → i + 1 ≡ length held → m ≡ get_or held i m
+    → EndsWith held (Some m.0)
+ends_at held i m len is =
+    let within : i < length held = omega arith in (
+      take i held,
+      (
+        m.1,
+        sym (take-length held) ∙ ap (λ n. take n held) (sym len) ∙ take_more held i m within
+            ∙ ap (λ x. take i held ++ x ∷ []) (sym is),
+      ),
+    )
+
+-- an item that passes is not before the first one that does
+first_before : {X : Type 0} (p : X → Bool) (xs : List X) (i : ℕ) (x : X) → i < length xs → x ≡ get_or xs i x
+    → p x ≡ true → position_or_len p xs ≤ i
+first_before p [] i x within is passes = absurd (omega arith)
+first_before p (y ∷ ys) zero x within is passes = rw (← is, passes) (omega arith)
+first_before p (y ∷ ys) (suc i) x within is passes =
+    go (p y) (first_before p ys i x (omega arith) is passes)
+  where
+    go : (b : Bool) → position_or_len p ys ≤ i → (if not b then 1 + position_or_len p ys else 0) ≤ suc i
+    go true h = omega arith
+    go false h = omega arith
+
+-- an item that passes has a position
+not_absent : {X : Type 0} (p : X → Bool) (xs : List X) (i : ℕ) (x : X) → i < length xs → x ≡ get_or xs i x
+    → p x ≡ true → position p xs ≡ None → ⊥
+not_absent p xs i x within is passes absent =
+    let before : position_or_len p xs ≤ i = first_before p xs i x within is passes in
+    let found : nat_lt (position_or_len p xs) (length xs) ≡ true =
+    lt-ltb (position_or_len p xs) (length xs) (omega arith) in
+    let some : Some (position_or_len p xs) ≡ None = rw found at absent in cc
+
+module _ {T ID D : Type 0} (k : Tests T ID D (Option D)) (exact : AreExact k) where
+  pub no_leader_read : {X : Type 0} (es : List (TraceEvent T ID D)) (t : T) (c : ID) (p : Parts T ID D) (x : X)
+      → position (λ (l : Leader T ID). same_leader k l.term l.id t c) p.leaders ≡ None → Keeps k es p
+      → None ≡ if_campaigned k es t c x
+  no_leader_read es t c p x absent keeps = rw ((unled k exact es t c p absent keeps).1) refl
+
+  pub leader_len_read : (es : List (TraceEvent T ID D)) (t : T) (c : ID) (p : Parts T ID D) (j n : ℕ) (l : Leader T ID)
+      → position (λ (l : Leader T ID). same_leader k l.term l.id t c) p.leaders ≡ Some j → l ≡ get_or p.leaders j l
+      → n ≡ length (log_at p.logs l.log) → Keeps k es p
+      → Some n ≡ if_campaigned k es t c (length (leader_log_in k es t c))
+  leader_len_read es t c p j n l at is len keeps =
+      let sees = sees_leader_at k exact es p t c j l at is keeps in
+      rw (sees.campaigned, sees.leader_log) (ap Some len)
+
+  pub leader_start_read : (es : List (TraceEvent T ID D)) (t : T) (c : ID) (p : Parts T ID D) (j : ℕ) (l : Leader T ID)
+      → position (λ (l : Leader T ID). same_leader k l.term l.id t c) p.leaders ≡ Some j → l ≡ get_or p.leaders j l
+      → Keeps k es p → Some l.start ≡ if_campaigned k es t c (length (candidate_log_in k es t c))
+  leader_start_read es t c p j l at is keeps =
+      let sees = sees_leader_at k exact es p t c j l at is keeps in
+      rw (sees.campaigned, sees.candidate_log, length-take-le l.start (log_at p.logs l.log) sees.start) refl
+
+  pub leader_entry_read : (es : List (TraceEvent T ID D)) (t : T) (c : ID) (p : Parts T ID D) (j n : ℕ) (l : Leader T ID)
+      → position (λ (l : Leader T ID). same_leader k l.term l.id t c) p.leaders ≡ Some j → l ≡ get_or p.leaders j l
+      → Keeps k es p → entry_at n (log_at p.logs l.log) ≡ entry_at n (leader_log_in k es t c)
+  leader_entry_read es t c p j n l at is keeps =
+      ap (λ x. entry_at n x) (sym (sees_leader_at k exact es p t c j l at is keeps).leader_log)
+
+  pub server_entry_read : (es : List (TraceEvent T ID D)) (id : ID) (p : Parts T ID D) (i n : ℕ) (s : Server ID)
+      → position (λ (s : Server ID). k.same_id s.id id) p.servers ≡ Some i → s ≡ get_or p.servers i s
+      → Keeps k es p → entry_at n (log_at p.logs s.log) ≡ entry_at n (log_in k es id)
+  server_entry_read es id p i n s at is keeps =
+      ap (λ x. entry_at n x) (sym (sees_server_at k exact es p id i s at is keeps).log)
+
+  -- what is kept of a leader that has not campaigned, or of a server that has no events
+  nothing_at : (n : ℕ) → None ≡ entry_at {T = T} {D = D} n []
+  nothing_at zero = refl
+  nothing_at (suc n) = go (nat_le (suc n) 0)
+    where
+      go : (b : Bool) → let nothing : Option (Entry T D) = None in nothing ≡ (if b then None else None)
+      go true = refl
+      go false = refl
+
+  pub no_leader_log : (es : List (TraceEvent T ID D)) (t : T) (c : ID) (p : Parts T ID D) (n : ℕ)
+      → position (λ (l : Leader T ID). same_leader k l.term l.id t c) p.leaders ≡ None → Keeps k es p
+      → None ≡ entry_at n (leader_log_in k es t c)
+  no_leader_log es t c p n absent keeps =
+      nothing_at n
+      ∙ ap (λ x. entry_at n x) (sym (no_leader_seen k exact es (leaders_in p) t c keeps.seen.see_leaders
+      (leader_place_in k exact p t c None absent)).leader_log)
+
+  pub no_server_log : (es : List (TraceEvent T ID D)) (id : ID) (p : Parts T ID D) (n : ℕ)
+      → position (λ (s : Server ID). k.same_id s.id id) p.servers ≡ None → Keeps k es p
+      → None ≡ entry_at n (log_in k es id)
+  no_server_log es id p n absent keeps =
+      let none : find_server k (servers_in p) id ≡ None =
+      none_found (λ (s : ServerState T ID D). k.same_id s.id id) (servers_in p)
+      (place_map (server_in p.logs) (λ (x : ServerState T ID D). k.same_id x.id id) p.servers ∙ absent) in
+      let no_events : events_in k es id ≡ [] = rw none at (keeps.seen.see_servers id) in
+      nothing_at n ∙ ap (λ x. entry_at n (log_after x)) (sym no_events)
+
+  -- each leader that is kept has campaigned
+  pub is_campaigned : (es : List (TraceEvent T ID D)) (p : Parts T ID D) (i : ℕ) (l : Leader T ID) → i < length p.leaders
+      → l ≡ get_or p.leaders i l → Keeps k es p → has_campaigned k l.term l.id es ≡ true
+  is_campaigned es p i l within is keeps =
+      go (position (λ (x : Leader T ID). same_leader k x.term x.id l.term l.id) p.leaders) refl
+    where
+      is_itself : same_leader k l.term l.id l.term l.id ≡ true
+      is_itself = rw (exact.term_itself l.term, exact.id_itself l.id) refl
+
+      go : (o : Option ℕ) → position (λ (x : Leader T ID). same_leader k x.term x.id l.term l.id) p.leaders ≡ o
+          → has_campaigned k l.term l.id es ≡ true
+      go None absent =
+          absurd (not_absent (λ (x : Leader T ID). same_leader k x.term x.id l.term l.id) p.leaders i l within is is_itself
+          absent)
+      go (Some j) at =
+          (leader_seen k exact es (leaders_in p) l.term l.id j (leader_in p.logs l) keeps.seen.see_leaders
+          (leader_place_in k exact p l.term l.id (Some j) at)).campaigned
