@@ -1135,16 +1135,23 @@ def number_faults(documents):
             yield f"tools/docs.py: COUNTED has `{words}`, and no document says that"
 
 
-# The programs whose output a document has to show. Each has a file `stdout`, which the gate compares with a run.
-SHOWN = {"first_example": "README.md", "cluster": "crates/cluster/README.md"}
+# The programs whose output a document has to show. Each has a file `stdout`, which the gate compares with a run. Files
+# with longer names, such as `chart.stdout`, have the output of other runs.
+SHOWN = {
+    "first_example": "README.md",
+    "cluster": "crates/cluster/README.md",
+    "raft_trace": "crates/raft_trace/TRACE.md",
+}
 TEXT = re.compile(r"^```text\n(.*?)^```", re.M | re.S)
 
 
 @functools.cache
 def outputs():
-    """Returns what programs print, by their crates: the lines without spaces at their ends."""
-    texts = {path.parent.name: path.read_text() for path in sorted(CRATES.glob("*/stdout"))}
-    return {crate: [line.rstrip() for line in text.splitlines()] for crate, text in texts.items()}
+    """Returns what programs print, by their crates: the lines of all runs, without spaces at their ends."""
+    lines = {}
+    for path in sorted(CRATES.glob("*/*stdout")):
+        lines.setdefault(path.parent.name, []).extend(line.rstrip() for line in path.read_text().splitlines())
+    return lines
 
 
 def has_in_order(lines, shown):

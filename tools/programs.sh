@@ -112,6 +112,7 @@ records() {
     local safe="3 servers, 0 terms with a leader, 0 committed, 0 membership changes"
     local no_event="line 2: it is no JSON with a text \`event\`"
     compare "a safe run" 0 "$(cat crates/raft_trace/stdout)" "" trace < crates/raft_trace/stdin
+    compare "a chart" 0 "$(cat crates/raft_trace/chart.stdout)" "" trace --chart < crates/raft_trace/stdin
     compare "no record" 2 "line 1: it has to be \`started\`, with lists of texts or numbers \`voters\`, a number \`first\` or\
  none, and \`configs\`, if it is there, as \`appended\` or \`applied\`" "" trace < /dev/null
     compare "a start alone" 0 "safe: 0 events, $safe" "" trace < <(start)
@@ -143,9 +144,9 @@ files() {
     folder=$(mktemp -d)
     said=$(cat crates/raft_trace/stdout)
     for word in --help -h; do
-        compare "$word of raft_trace" 0 "Usage: raft_trace [FILE].." "" trace_usage "$word" < <(start)
+        compare "$word of raft_trace" 0 "Usage: raft_trace [--chart] [FILE].." "" trace_usage "$word" < <(start)
     done
-    compare "help after a file" 0 "Usage: raft_trace [FILE].." "" trace_usage "$folder/none" --help
+    compare "help after a file" 0 "Usage: raft_trace [--chart] [FILE].." "" trace_usage "$folder/none" --help
     compare "an unknown option" 2 "" "raft_trace: \`-v\` is no option; --help prints the usage" \
         trace -v < <(start)
     compare "a missing file" 2 "" "raft_trace: $folder/none: No such file or directory (os error 2)" \

@@ -230,6 +230,7 @@ impl Judge {
             Ok(()) => {
                 self.counts.note_filled_in(event);
                 self.followers.note_event(event)?;
+                self.chart.note(event)?;
                 Ok(true)
             }
             Err(Violation::Rule(_)) => Ok(false),

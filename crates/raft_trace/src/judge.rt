@@ -8,6 +8,7 @@ ghost use Rattle.raft_trace.specs.Names.{numbering};
 ghost use Rattle.raft_trace.specs.Numbers.{number_tests};
 ghost use Rattle.raft_trace.specs.Run.{IsBroken, IsStarted, Refuses, SaysMembership, Stays, Takes, TakesEvent, TakesHolding, TakesSaid};
 
+use crate::chart::Chart;
 use crate::counted::counted_otherwise;
 use crate::counts::Counts;
 use crate::event::{Act, Checking, event_of, installed};
@@ -39,10 +40,13 @@ pub struct Judge {
     pub followers: Followers,
     /// The lines that later lines may contradict.
     pub facts: Facts,
+    /// The chart of the events so far.
+    pub chart: Chart,
 }
 
-/// Returns the judge of a cluster that starts as the line says.
-pub fn start(alloc: Global, line: &[u8]) -> Result<Judge, Fault>
+/// Returns the judge of a cluster that starts as the line says. It draws a chart if that is wanted, by the
+/// numbers of lines if there is one list alone.
+pub fn start(alloc: Global, line: &[u8], is_drawn: bool, is_alone: bool) -> Result<Judge, Fault>
     ensures { IfOk result (λ j. IsStarted number_tests line.now j) }
 {
     let mut names = Names::new(alloc);
@@ -50,6 +54,7 @@ pub fn start(alloc: Global, line: &[u8]) -> Result<Judge, Fault>
         return Err(Fault::Malformed);
     };
     let counts = Counts::new(alloc, &initial)?;
+    let chart = Chart::start(alloc, line, first, &initial, is_drawn, is_alone)?;
     let held = Vec::new(alloc);
     let memberships = Memberships { initial, held };
     memberships_are_exact::<u64, u64, u64>(&memberships);
@@ -61,6 +66,7 @@ pub fn start(alloc: Global, line: &[u8]) -> Result<Judge, Fault>
         counts,
         followers: Followers::new(alloc),
         facts: Facts::new(alloc),
+        chart,
     })
 }
 
@@ -90,6 +96,7 @@ impl Judge {
             return Err(Fault::Malformed);
         };
         self.names.learn(&value)?;
+        self.chart.begin(place.line, self.counts.events, &value)?;
         self.fill_in(alloc, fills, &value)?;
         self.take_value(alloc, place, &value)
     }
@@ -277,6 +284,7 @@ impl Judge {
         self.followers.note_event(event)?;
         let len = self.written_by(event);
         self.facts.note(place, event, len)?;
+        self.chart.note(event)?;
         Ok(())
     }
 

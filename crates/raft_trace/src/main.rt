@@ -1,6 +1,7 @@
 //! Judges a recorded run of a Raft cluster: one event a line, as JSON.
 #![tactic(auto)]
 
+mod chart;
 mod counted;
 mod counts;
 mod event;
@@ -30,7 +31,7 @@ use std::{env, io};
 
 /// What the program is for, and how it is called.
 const USAGE: &str = "\
-Usage: raft_trace [FILE]..
+Usage: raft_trace [--chart] [FILE]..
 
 Judges a recorded run of a Raft cluster. It reads one event a line, as JSON, from the files, or from
 standard input without any; - is standard input too. The events of a file are in their order, and no
@@ -47,8 +48,8 @@ order between files is needed, so each process may write its own file. For examp
     {\"event\":\"restarted\",\"server\":2,\"index\":1}
 
 The status is 0 if the run is safe, 1 if the next event of every file breaks a rule, 2 at a line that
-is no event, and 3 if a file cannot be read, or if there is no memory. --help and -h print this text.
-TRACE.md describes the events.
+is no event, and 3 if a file cannot be read, or if there is no memory. --chart draws the run before
+the answer. --help and -h print this text. TRACE.md describes the events.
 ";
 
 /// Where lines come from.
@@ -99,24 +100,26 @@ fn run_words(rt: &HostRuntime) -> io::Result<u8> {
     }
 }
 
-/// Returns the first word that is an option. A hyphen alone is none.
+/// Returns the first word that is an option, but not `--chart`. A hyphen alone is none.
 fn option_in(words: &[String]) -> Option<&str> {
     for word in words {
         let text = word.as_str();
-        if text != "-" && text.starts_with('-') {
+        if text != "-" && text != "--chart" && text.starts_with('-') {
             return Some(text);
         }
     }
     None
 }
 
-/// Judges the files that words name, or standard input if there is no word. Returns the exit status.
+/// Judges the files that words name, or standard input if there is none. Returns the exit status.
 fn judge_files(rt: &HostRuntime, words: Vec<String>) -> io::Result<u8> {
     let mut lists = Vec::new(rt.alloc());
-    if words.is_empty() {
-        lists.push(lines_of(rt, Source::Input(rt.stdin()), None)?)?;
-    }
+    let mut is_drawn = false;
     for word in words {
+        if word.as_str() == "--chart" {
+            is_drawn = true;
+            continue;
+        }
         match source_of(rt, word.as_str()) {
             Ok(source) => lists.push(lines_of(rt, source, Some(word))?)?,
             Err(error) => {
@@ -125,7 +128,10 @@ fn judge_files(rt: &HostRuntime, words: Vec<String>) -> io::Result<u8> {
             }
         }
     }
-    judge_lists(rt, &mut lists)
+    if lists.is_empty() {
+        lists.push(lines_of(rt, Source::Input(rt.stdin()), None)?)?;
+    }
+    judge_lists(rt, &mut lists, is_drawn)
 }
 
 /// Opens the source that a word of the command line names.
@@ -143,11 +149,12 @@ fn lines_of(rt: &HostRuntime, source: Source, name: Option<String>) -> io::Resul
     Ok(Lines::new(rt.alloc(), input, name))
 }
 
-/// Judges lists of lines, and prints the answer. Returns the exit status.
-fn judge_lists(rt: &HostRuntime, lists: &mut [SourceLines]) -> io::Result<u8> {
+/// Judges lists of lines, and prints the answer, after a chart if that is wanted. Returns the exit
+/// status.
+fn judge_lists(rt: &HostRuntime, lists: &mut [SourceLines], is_drawn: bool) -> io::Result<u8> {
     let mut answer = String::new(rt.alloc());
     let progress = Progress::on(rt.stderr());
-    let status = run::run(rt.alloc(), lists, progress, &mut answer);
+    let status = run::run(rt.alloc(), lists, progress, is_drawn, &mut answer);
     rt.print(answer.as_str())?;
     Ok(status)
 }

@@ -6,6 +6,7 @@ ghost use Rattle.raft_trace.specs.Lists.{AreSafe, Begins, Judges, JudgesNext, Ju
 ghost use Rattle.raft_trace.specs.Numbers.{number_tests};
 ghost use Rattle.raft_trace.specs.Run.{IsBroken, SafeRun};
 
+use crate::chart::Chart;
 use crate::facts::Place;
 use crate::fault::Fault;
 use crate::input::Lines;
@@ -45,8 +46,8 @@ impl From<AllocError> for Stop {
     }
 }
 
-/// Judges lists of lines, and writes the answer. The order of each list is kept, and no order between
-/// the lists is known.
+/// Judges lists of lines, and writes the answer, after a chart of the run if that is wanted. The order of
+/// each list is kept, and no order between the lists is known.
 ///
 /// Returns the exit status: 0 if the run is safe, 1 if the next line of each list breaks a rule, 2 if a
 /// line is no event, and 3 if an input cannot be read, or if there is no memory.
@@ -54,13 +55,14 @@ pub fn run<B: BufRead>(
     alloc: Global,
     lists: &mut [Lines<B>],
     progress: Progress,
+    is_drawn: bool,
     answer: &mut String,
 ) -> u8
     ensures safe { result ≡ 0 → AreSafe number_tests (map (lines_left B.remaining) lists.old) }
     ensures alone { result ≡ 0 → (lines : List (List ℕ)) →
         map (lines_left B.remaining) lists.old ≡ Some lines ∷ [] → SafeRun number_tests lines }
 {
-    match judge_lists(alloc, lists, progress, answer) {
+    match judge_lists(alloc, lists, progress, is_drawn, answer) {
         Ok(status) => status,
         Err(AllocError) => 3,
     }
@@ -71,6 +73,7 @@ fn judge_lists<B: BufRead>(
     alloc: Global,
     lists: &mut [Lines<B>],
     progress: Progress,
+    is_drawn: bool,
     answer: &mut String,
 ) -> Result<u8, AllocError>
     ensures { IfOk result (λ status. status ≡ 0 →
@@ -78,36 +81,36 @@ fn judge_lists<B: BufRead>(
 {
     traces_are_executions::<u64, u64, u64, Option<u64>>();
     applied_traces_are_executions::<u64, u64, u64, Option<u64>>();
-    let (first_line, mut judge) = match begin(alloc, lists) {
+    let (first_line, mut judge) = match begin(alloc, lists, is_drawn) {
         Ok(begun) => begun,
-        Err(stop) => return push_stop(alloc, answer, lists, 0, stop),
+        Err(stop) => return push_stop(alloc, answer, None, lists, 0, stop),
     };
     match take_lines(alloc, &first_line, lists, &mut judge, progress) {
-        Ok(()) => {}
-        Err((at, stop)) => return push_stop(alloc, answer, lists, at, stop),
+        Ok(()) => push_verdict(alloc, answer, lists, &mut judge),
+        Err((at, stop)) => push_stop(alloc, answer, Some(&judge.chart), lists, at, stop),
     }
-    if !are_ended(lists) {
-        return push_waiting(alloc, answer, lists, &judge);
-    }
-    push_safe(alloc, answer, &judge)?;
-    Ok(0)
 }
 
 /// Takes the first line of the first list. Returns this line, and the judge of a cluster that starts as
 /// it says.
-fn begin<B: BufRead>(alloc: Global, lists: &mut [Lines<B>]) -> Result<(Vec<u8>, Judge), Stop>
+fn begin<B: BufRead>(
+    alloc: Global,
+    lists: &mut [Lines<B>],
+    is_drawn: bool,
+) -> Result<(Vec<u8>, Judge), Stop>
     ensures { IfOk result (λ b. Begins number_tests (map (lines_left B.remaining) lists.old)
         (map (lines_left B.remaining) lists.new) b.0.items b.1) }
 {
     if lists.is_empty() {
         return Err(Stop::Line(Fault::Malformed));
     }
+    let is_alone = lists.len() == 1;
     let first = &mut lists[0];
     if !first.has_next()? {
         return Err(Stop::Line(Fault::Malformed));
     }
     let line = first.line.as_slice().to_vec(alloc)?;
-    let judge = start(alloc, &line)?;
+    let judge = start(alloc, &line, is_drawn, is_alone)?;
     first.pass();
     Ok((line, judge))
 }
@@ -243,7 +246,28 @@ fn are_ended<B: BufRead>(lists: &[Lines<B>]) -> bool
     true
 }
 
-/// Writes the line that each list waits with, why, and which line it contradicts. The list that waits longest comes first.
+/// Writes the chart, and then that the run is safe if all lists are at their end, or the lines that they
+/// wait with. Returns the exit status.
+fn push_verdict<B: BufRead>(
+    alloc: Global,
+    answer: &mut String,
+    lists: &[Lines<B>],
+    judge: &mut Judge,
+) -> Result<u8, AllocError>
+    ensures { IfOk result (λ status. status ≡ 0 →
+        All (λ list. lines_left B.remaining list ≡ Some []) lists.now) }
+{
+    if !are_ended(lists) {
+        judge.chart.push_refused_to(answer)?;
+        return push_waiting(alloc, answer, lists, judge);
+    }
+    judge.chart.push_to(answer)?;
+    push_safe(alloc, answer, judge)?;
+    Ok(0)
+}
+
+/// Writes the line that each list waits with, why, and which line it contradicts. The list that waits
+/// longest comes first.
 /// Returns the exit status.
 fn push_waiting<B>(
     alloc: Global,
@@ -298,10 +322,12 @@ fn push_wait<B>(
     Ok(())
 }
 
-/// Writes why the list at a place is judged no further. Returns the exit status.
+/// Writes the chart, if there is one, and why the list at a place is judged no further. Returns the exit
+/// status.
 fn push_stop<B>(
     alloc: Global,
     answer: &mut String,
+    chart: Option<&Chart>,
     lists: &[Lines<B>],
     at: usize,
     stop: Stop,
@@ -311,6 +337,9 @@ fn push_stop<B>(
     let Some(list) = lists.get(at) else {
         return Ok(3);
     };
+    if let Some(chart) = chart {
+        chart.push_to(answer)?;
+    }
     match stop {
         Stop::Line(fault) => {
             list.push_place(answer)?;

@@ -1,6 +1,7 @@
 //! Answers to recorded runs.
 
 mod applied;
+mod chart;
 mod fills;
 mod names;
 
@@ -131,7 +132,7 @@ fn judged(alloc: Global, text: &str) -> Result<(u8, String), AllocError> {
     let mut said = String::new(alloc);
     let mut lists = Vec::new(alloc);
     lists.push(Lines::new(alloc, text.as_bytes(), None))?;
-    let status = run(alloc, &mut lists, Progress::silent(), &mut said);
+    let status = run(alloc, &mut lists, Progress::silent(), false, &mut said);
     Ok((status, said))
 }
 
@@ -271,7 +272,10 @@ fn are_answered(alloc: Global, row: &str, status: u8, answer: &str) -> Result<bo
         let name = String::from_str(alloc, NAMES.get(i).copied().unwrap_or("more"))?;
         lists.push(Lines::new(alloc, text.as_bytes(), Some(name)))?;
     }
-    Ok(run(alloc, &mut lists, Progress::silent(), &mut said) == status && said.as_str() == answer)
+    Ok(
+        run(alloc, &mut lists, Progress::silent(), false, &mut said) == status
+            && said.as_str() == answer,
+    )
 }
 
 #[test]

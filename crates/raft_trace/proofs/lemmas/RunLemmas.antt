@@ -13,6 +13,7 @@ use Rattle.raft_safety.specs.declared.memberships.Memberships.{Memberships}
 use Rattle.raft_trace.specs.Fields.{HasConfigs}
 use Rattle.raft_trace.specs.Line.{Says}
 use Rattle.raft_trace.specs.Run.{Adds, AddsLine, AddsMembership, Fills, FillsIn, GoesOn, Held, IsFilledIn, IsStarted, IsTraceOf, KeepsMore, KeepsTrace, Refuses, SaysMembership, SaysStart, Stays, Takes, TakesEvent, TakesSaid, held_by, tests_for}
+use Rattle.raft_trace.specs.declared.chart.Chart.{Chart}
 use Rattle.raft_trace.specs.declared.counts.Counts.{Counts}
 use Rattle.raft_trace.specs.declared.judge.Judge.{Judge}
 use Rattle.raft_trace.specs.Names.{IsTable, Learns, Numbering, numbering}
@@ -311,9 +312,10 @@ module _ (tests : ConfigsCount → Memberships ℕ ℕ → Tests ℕ ℕ ℕ (Op
   stays_unlearned old new goes held also same names exact =
       (goes, λ es keeps. (es, refl, held, keeps_also old new es also same names exact keeps))
 
-  -- names get numbers
-  pub stays_named : (old : Judge) (names : Names) → Learns old.names names → Stays tests old (record old { names = names })
-  stays_named old names learns = (
+  -- names get numbers, and the chart may be any
+  pub stays_named : (old : Judge) (names : Names) (chart : Chart) → Learns old.names names
+      → Stays tests old (record old { names = names; chart = chart })
+  stays_named old names chart learns = (
     (refl, refl, learns.0, refl),
     λ es keeps. (
       es,
@@ -324,11 +326,11 @@ module _ (tests : ConfigsCount → Memberships ℕ ℕ → Tests ℕ ℕ ℕ (Op
   )
 
   -- events are filled in after names have got numbers
-  pub fills_named : (old : Judge) (names : Names) (new : Judge) → Learns old.names names
-      → Fills tests (record old { names = names }) new → Fills tests old new
-  fills_named old names new learns fills =
-      let mid : Judge = record old { names = names } in
-      fills_both old mid new (fills_stays old old mid (fills_nothing old) (stays_named old names learns)) fills
+  pub fills_named : (old : Judge) (names : Names) (chart : Chart) (new : Judge) → Learns old.names names
+      → Fills tests (record old { names = names; chart = chart }) new → Fills tests old new
+  fills_named old names chart new learns fills =
+      let mid : Judge = record old { names = names; chart = chart } in
+      fills_both old mid new (fills_stays old old mid (fills_nothing old) (stays_named old names chart learns)) fills
 
   -- a judge takes an event once it has refused another one
   pub takes_after : (old mid new : Judge) (e : TraceEvent ℕ ℕ ℕ) (m : Option Held) → Stays tests old mid

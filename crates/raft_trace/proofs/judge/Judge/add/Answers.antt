@@ -5,8 +5,8 @@ use Rattle.raft_trace.specs.Numbers.{number_tests}
 use Rattle.raft_trace.proofs.lemmas.RunLemmas.{fills_none, fills_one, keeps_more, votes_filled}
 use Rattle.raft_trace.proofs.judge.Judge.add.Goals as goal
 
-pub returns-in_ok-note_event-in-Ok : goal.returns-in_ok-note_event-in-Ok
-returns-in_ok-note_event-in-Ok c =
+pub returns-in_ok-note-in-Ok : goal.returns-in_ok-note-in-Ok
+returns-in_ok-note-in-Ok c =
     let e = trace_event c.args.event.now in
     λ may. keeps_more number_tests FillsIn c.args.self.now _ c.in-Ok.ensures.configs c.in-Ok.ensures.counting refl refl λ es keeps. (
       e ∷ es,
