@@ -1,5 +1,26 @@
 -- What the checker of recorded traces answers, and what it keeps of the events.
-use Rattle.std.specs.Prelude.{◌≡◌, ◌⊎◌, ◌<◌, ℕ, Bool, true, false, Option, Some, None, Result, List, [], ◌∷◌, length, take, get_or, is_some, nat_le, if◌then◌else◌}
+use Rattle.std.specs.Prelude.{
+  ◌≡◌,
+  ◌⊎◌,
+  ◌<◌,
+  ℕ,
+  Bool,
+  true,
+  false,
+  Option,
+  Some,
+  None,
+  Result,
+  List,
+  [],
+  ◌∷◌,
+  length,
+  take,
+  get_or,
+  is_some,
+  nat_le,
+  if◌then◌else◌,
+}
 use Rattle.std.specs.List.{list_any, position}
 use Rattle.std.specs.Option.{MatchOption}
 use Rattle.std.specs.Result.{MatchResult}

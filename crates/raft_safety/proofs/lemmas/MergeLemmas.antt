@@ -248,7 +248,8 @@ or_some (Some y) x e = absurd (cc)
 module _ {T ID D C : Type 0} (tests : ConfigsCount → C → Tests T ID D (Option D))
     (counting : ConfigsCount) (configs : C)
     (lists : List (Vec (RecordedEvent T ID D))) (placed before new_placed : List ℕ) (old new : Checker T ID D C)
-    (same_counting : counting_of old ≡ counting) (same_configs : configs_of old ≡ configs) (same_placed : before ≡ placed) (exact : AreExact (tests counting configs)) where
+    (same_counting : counting_of old ≡ counting) (same_configs : configs_of old ≡ configs) (same_placed : before ≡ placed)
+    (exact : AreExact (tests counting configs)) where
   -- the checker has recorded events that interleave those that are placed
   abbrev pub HasTrace : List ℕ → Checker T ID D C → Type 0
   HasTrace ns c =

@@ -1,5 +1,24 @@
 -- Lines that a judge takes from several lists.
-use Rattle.std.specs.Prelude.{◌≡◌, ◌<◌, ℕ, true, List, [], ◌∷◌, ◌++◌, Option, Some, None, map, option_map, length, set, slice_get, zero, suc}
+use Rattle.std.specs.Prelude.{
+  ◌≡◌,
+  ◌<◌,
+  ℕ,
+  true,
+  List,
+  [],
+  ◌∷◌,
+  ◌++◌,
+  Option,
+  Some,
+  None,
+  map,
+  option_map,
+  length,
+  set,
+  slice_get,
+  zero,
+  suc,
+}
 use Rattle.std.specs.Global.{Vec}
 use Rattle.std.specs.List.{All}
 use Rattle.std.proofs.Common.{refl, sym, ap, subst, ◌∙◌, inl, inr, append_assoc}
@@ -248,7 +267,8 @@ module _ (tests : ConfigsCount → Memberships ℕ ℕ → Tests ℕ ℕ ℕ (Op
 
   -- a judge has judged all lines of lists
   pub are_safe : ((w : ConfigsCount) (m : Memberships ℕ ℕ) (t u : ℕ) → (tests w m).rank t ≡ (tests w m).rank u → t ≡ u)
-      → TracesAreExecutions ℕ ℕ ℕ (Option ℕ) → AppliedTracesAreExecutions ℕ ℕ ℕ (Option ℕ) → {X : Type 0} (lines_of : X → Option (List (List ℕ)))
+      → TracesAreExecutions ℕ ℕ ℕ (Option ℕ) → AppliedTracesAreExecutions ℕ ℕ ℕ (Option ℕ) → {X : Type 0}
+      (lines_of : X → Option (List (List ℕ)))
       (known begun : List (Option (List (List ℕ)))) (xs : List X) (first_line : List ℕ) (old new : Judge)
       → Begins tests known begun first_line old → JudgesSome tests first_line begun (map lines_of xs) old new
       → All (λ x. lines_of x ≡ Some []) xs → AreSafe tests known

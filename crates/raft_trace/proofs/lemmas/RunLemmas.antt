@@ -12,7 +12,29 @@ use Rattle.raft_safety.specs.declared.checker.counting.ConfigsCount.{ConfigsCoun
 use Rattle.raft_safety.specs.declared.memberships.Memberships.{Memberships}
 use Rattle.raft_trace.specs.Fields.{HasConfigs}
 use Rattle.raft_trace.specs.Line.{Says}
-use Rattle.raft_trace.specs.Run.{Adds, AddsLine, AddsMembership, Fills, FillsIn, GoesOn, Held, IsFilledIn, IsStarted, IsTraceOf, KeepsMore, KeepsTrace, Refuses, SaysMembership, SaysStart, Stays, Takes, TakesEvent, TakesSaid, held_by, tests_for}
+use Rattle.raft_trace.specs.Run.{
+  Adds,
+  AddsLine,
+  AddsMembership,
+  Fills,
+  FillsIn,
+  GoesOn,
+  Held,
+  IsFilledIn,
+  IsStarted,
+  IsTraceOf,
+  KeepsMore,
+  KeepsTrace,
+  Refuses,
+  SaysMembership,
+  SaysStart,
+  Stays,
+  Takes,
+  TakesEvent,
+  TakesSaid,
+  held_by,
+  tests_for,
+}
 use Rattle.raft_trace.specs.declared.chart.Chart.{Chart}
 use Rattle.raft_trace.specs.declared.counts.Counts.{Counts}
 use Rattle.raft_trace.specs.declared.judge.Judge.{Judge}

@@ -37,7 +37,8 @@ loop-checker-preserved g c =
           (λ w x. tests_when w (record { eq = g.T.PartialEq.eq; rank = g.T.Term.rank }) g.N.PartialEq g.D.PartialEq
           g.C.Configs x)
           c.args.counting c.args.configs c.args.lists.now c.loop-checker.placed.items c.deref_mut.result.now c.record_next.new.placed
-          c.loop-checker.checker c.record_next.new.checker c.loop-checker.invariant.counting c.loop-checker.invariant.configs c.deref_mut.ensures.value exact
+          c.loop-checker.checker c.record_next.new.checker c.loop-checker.invariant.counting c.loop-checker.invariant.configs
+          c.deref_mut.ensures.value exact
           (rw c.in-Ok-true.field-0-test at c.in-Ok-true.ensures.records) (c.loop-checker.invariant.seen exact));
     }
 
@@ -61,6 +62,7 @@ returns-in-Err-record_next-clause-refused g c = λ exact.
     (λ w x. tests_when w (record { eq = g.T.PartialEq.eq; rank = g.T.Term.rank }) g.N.PartialEq g.D.PartialEq
     g.C.Configs x)
     c.args.counting c.args.configs c.args.lists.now c.loop-checker.placed.items c.deref_mut.result.now c.record_next.new.placed
-    c.loop-checker.checker c.record_next.new.checker c.loop-checker.invariant.counting c.loop-checker.invariant.configs c.deref_mut.ensures.value exact
+    c.loop-checker.checker c.record_next.new.checker c.loop-checker.invariant.counting c.loop-checker.invariant.configs
+    c.deref_mut.ensures.value exact
     (c.in-Err-record_next.list, c.in-Err-record_next.violation) c.in-Err-record_next.ensures.records
     c.in-Err-record_next.ensures.same (c.loop-checker.invariant.seen exact))

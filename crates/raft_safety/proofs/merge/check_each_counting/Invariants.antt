@@ -9,7 +9,8 @@ use Rattle.raft_safety.proofs.merge.check_each_counting.Given as goal
 abbrev pub invariant-loop-checker : goal.invariant-loop-checker
 invariant-loop-checker g l =
     let k =
-    tests_when l.fn.counting (record { eq = g.T.PartialEq.eq; rank = g.T.Term.rank }) g.N.PartialEq g.D.PartialEq g.C.Configs l.fn.configs in
+    tests_when l.fn.counting (record { eq = g.T.PartialEq.eq; rank = g.T.Term.rank }) g.N.PartialEq g.D.PartialEq g.C.Configs
+    l.fn.configs in
     record {
       configs : l.checker.configs ≡ l.fn.configs;
       counting : l.checker.counting ≡ l.fn.counting;

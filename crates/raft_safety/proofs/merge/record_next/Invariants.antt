@@ -8,7 +8,8 @@ use Rattle.raft_safety.proofs.merge.record_next.Given as goal
 abbrev pub invariant-loop-i : goal.invariant-loop-i
 invariant-loop-i g l =
     let k =
-    tests_when l.fn.checker.counting (record { eq = g.T.PartialEq.eq; rank = g.T.Term.rank }) g.N.PartialEq g.D.PartialEq g.C.Configs l.fn.checker.configs in
+    tests_when l.fn.checker.counting (record { eq = g.T.PartialEq.eq; rank = g.T.Term.rank }) g.N.PartialEq g.D.PartialEq g.C.Configs
+    l.fn.checker.configs in
     record {
       configs : l.checker.configs ≡ l.fn.checker.configs;
       counting : l.checker.counting ≡ l.fn.checker.counting;

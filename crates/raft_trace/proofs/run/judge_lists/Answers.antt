@@ -14,7 +14,8 @@ returns-in-Ok-take_lines g c =
     (λ status. status ≡ 0 → All (λ list. lines_left g.B.Read.remaining list ≡ Some []) c.take_lines.new.lists)
     (λ status. status ≡ 0 → AreSafe number_tests (map (lines_left g.B.Read.remaining) c.args.lists.now))
     (λ status ended safe.
-    are_safe number_tests (λ w m t u e. e) c.traces_are_executions.ensures c.applied_traces_are_executions.ensures (lines_left g.B.Read.remaining)
+    are_safe number_tests (λ w m t u e. e) c.traces_are_executions.ensures c.applied_traces_are_executions.ensures
+    (lines_left g.B.Read.remaining)
     (map (lines_left g.B.Read.remaining) c.args.lists.now) (map (lines_left g.B.Read.remaining) c.begin.new.lists)
     c.take_lines.new.lists c.in-Ok.begun.0.items c.in-Ok.begun.1 c.take_lines.new.judge c.in-Ok.ensures
     (rw c.deref.ensures.value at c.in-Ok-take_lines.ensures) (ended safe)) c.push_verdict.ensures

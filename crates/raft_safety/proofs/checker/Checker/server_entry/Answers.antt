@@ -11,4 +11,5 @@ returns-in-Some g c =
 
 pub returns-in-None : goal.returns-in-None
 returns-in-None g c =
-    λ exact es keeps. no_server_log _ exact es c.args.id (kept_by c.args.self.now) c.args.len (rw c.deref.ensures.value at (sym c.in-None.ensures)) keeps
+    λ exact es keeps. no_server_log _ exact es c.args.id (kept_by c.args.self.now) c.args.len
+    (rw c.deref.ensures.value at (sym c.in-None.ensures)) keeps

@@ -4,8 +4,10 @@ use Rattle.raft_trace.proofs.judge.Judge.acknowledge.Goals as goal
 
 pub returns-then-branch : goal.returns-then-branch
 returns-then-branch c =
-    fills_both number_tests c.args.self.now c.loop-number.self c.acknowledge_to.new.self c.loop-number.invariant c.in_ok-acknowledge_to.ensures
+    fills_both number_tests c.args.self.now c.loop-number.self c.acknowledge_to.new.self c.loop-number.invariant
+    c.in_ok-acknowledge_to.ensures
 
 pub loop-number-preserved : goal.loop-number-preserved
 loop-number-preserved c =
-    fills_both number_tests c.args.self.now c.loop-number.self c.acknowledge_to.new.self c.loop-number.invariant c.in_ok-acknowledge_to.ensures
+    fills_both number_tests c.args.self.now c.loop-number.self c.acknowledge_to.new.self c.loop-number.invariant
+    c.in_ok-acknowledge_to.ensures

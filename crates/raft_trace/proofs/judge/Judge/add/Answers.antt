@@ -17,7 +17,8 @@ returns-in_ok-note-in-Ok c =
 
 pub returns-in-Err-Rule : goal.returns-in-Err-Rule
 returns-in-Err-Rule c =
-    λ may. keeps_more number_tests FillsIn c.args.self.now _ c.in-Err-Rule.ensures.configs c.in-Err-Rule.ensures.counting refl refl λ es keeps. (
+    λ may. keeps_more number_tests FillsIn c.args.self.now _ c.in-Err-Rule.ensures.configs c.in-Err-Rule.ensures.counting refl refl
+    λ es keeps. (
       es,
       fills_none es,
       (rw c.in-Err-Rule.field-0-is at (c.in-Err-Rule.ensures.answer keeps.exact es keeps.keeps)).1,

@@ -13,7 +13,8 @@ returns-in-Ok-take_event-clause-taken c =
       (c.args.content, c.args.configs),
       says,
       takes_new number_tests c.args.self.now mid c.take_event.new.self (trace_event c.args.event.now)
-          (c.args.content, c.args.configs) (c.in-Ok.ensures.initial, refl, λ a n is. is, c.in-Ok.ensures.counting) c.in-Ok.ensures.learned c.in-Ok.ensures.keeps
+          (c.args.content, c.args.configs) (c.in-Ok.ensures.initial, refl, λ a n is. is, c.in-Ok.ensures.counting)
+          c.in-Ok.ensures.learned c.in-Ok.ensures.keeps
           refl refl (exact_when _ c.learn-learned.new.self.counting (rw c.configs.ensures at exact)) c.in-Ok-take_event.ensures.taken,
     )
 
@@ -27,8 +28,10 @@ returns-in-Err-take_event-clause-broken c =
     c.memberships_are_exact-in-Err-take_event.ensures (λ x y e. eqb-true x y e) (λ x y e. eqb-true x y e) (λ x y e. eqb-true x y e) in
     λ broken. stays_new number_tests nat_eq c.args.self.now mid refused new (c.args.content, c.args.configs)
     (c.in-Ok.ensures.initial, refl, λ a n is. is, c.in-Ok.ensures.counting) c.in-Ok.ensures.learned c.in-Ok.ensures.keeps
-    (λ exact es keeps. (c.in-Ok.ensures.answer exact es keeps).1) refl refl (exact_when _ c.learn-learned.new.self.counting (rw c.configs.ensures at exact))
-    (c.in-Err-take_event.ensures.broken broken) (c.forget.ensures.initial, refl, λ a n is. is, c.forget.ensures.counting) c.forget.ensures.keeps
+    (λ exact es keeps. (c.in-Ok.ensures.answer exact es keeps).1) refl refl
+    (exact_when _ c.learn-learned.new.self.counting (rw c.configs.ensures at exact))
+    (c.in-Err-take_event.ensures.broken broken) (c.forget.ensures.initial, refl, λ a n is. is, c.forget.ensures.counting)
+    c.forget.ensures.keeps
     c.forget.ensures.forgotten refl refl (exact_when _ c.forget.new.self.counting (rw c.configs-in-Err-take_event.ensures at again))
 
 pub returns-in-Err-clause-broken : goal.returns-in-Err-clause-broken
