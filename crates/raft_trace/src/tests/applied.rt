@@ -42,18 +42,23 @@ const COMMAND: &str = r#"{"event":"wrote","leader":1,"term":1,"content":7}
 {"event":"acked","server":5,"term":1,"leader":1,"index":3}
 "#;
 
-/// A commit of the first entry, of two and of three.
-const COMMITTED: [&str; 3] = [
-    "{\"event\":\"committed\",\"leader\":1,\"term\":1,\"index\":1}\n",
-    "{\"event\":\"committed\",\"leader\":1,\"term\":1,\"index\":2}\n",
-    "{\"event\":\"committed\",\"leader\":1,\"term\":1,\"index\":3}\n",
-];
+/// A commit of the first entry.
+const COMMITTED_1: &str = r#"{"event":"committed","leader":1,"term":1,"index":1}
+"#;
+
+/// A commit of the first two entries.
+const COMMITTED_2: &str = r#"{"event":"committed","leader":1,"term":1,"index":2}
+"#;
+
+/// A commit of the first three entries.
+const COMMITTED_3: &str = r#"{"event":"committed","leader":1,"term":1,"index":3}
+"#;
 
 /// Parts of runs, and the status and the answer.
 const ROWS: [(&[&str], u8, &str); 10] = [
     // A leader commits a config by the one before.
     (
-        &[APPLIED, WRITTEN, COMMITTED[0]],
+        &[APPLIED, WRITTEN, COMMITTED_1],
         0,
         "safe: 8 events, 4 servers, 1 term with a leader, 1 committed, 1 membership change\n",
     ),
@@ -62,11 +67,11 @@ const ROWS: [(&[&str], u8, &str); 10] = [
         &[
             APPLIED,
             WRITTEN,
-            COMMITTED[0],
+            COMMITTED_1,
             SECOND,
-            COMMITTED[1],
+            COMMITTED_2,
             COMMAND,
-            COMMITTED[2],
+            COMMITTED_3,
         ],
         0,
         "safe: 24 events, 5 servers, 1 term with a leader, 3 committed, 2 membership changes\n",
@@ -84,7 +89,7 @@ const ROWS: [(&[&str], u8, &str); 10] = [
     ),
     // Two configs follow the initial one, of which neither is known.
     (
-        &[APPLIED, WRITTEN, SECOND, COMMITTED[1]],
+        &[APPLIED, WRITTEN, SECOND, COMMITTED_2],
         1,
         "line 16: leader 1 commits index 2 in term 1: the config of the quorum is not known to be \
             committed\n",
@@ -105,7 +110,7 @@ const ROWS: [(&[&str], u8, &str); 10] = [
         &[
             APPLIED,
             WRITTEN,
-            COMMITTED[0],
+            COMMITTED_1,
             r#"{"event":"wrote","leader":1,"term":1,"content":7}
 {"event":"appended","server":1,"term":1,"leader":1,"index":2}
 {"event":"acked","server":1,"term":1,"leader":1,"index":2}
@@ -116,7 +121,7 @@ const ROWS: [(&[&str], u8, &str); 10] = [
     ),
     // If configs count from their append on, a leader first commits an entry of its own term.
     (
-        &[APPENDED, WRITTEN, COMMITTED[0]],
+        &[APPENDED, WRITTEN, COMMITTED_1],
         1,
         "line 4: leader 1 writes an entry in term 1: the leader has not committed an own entry and the \
             config in effect\n",
