@@ -16,6 +16,7 @@ use Rattle.std.specs.Prelude.{
   ◌∷◌,
   length,
   take,
+  drop,
   get_or,
   is_some,
   nat_le,
@@ -41,7 +42,9 @@ use Rattle.raft_safety.specs.Trace.{
   AreExact,
   is_known_committed,
   has_campaigned,
+  hold_no_config,
 }
+use Rattle.raft_safety.specs.AppliedTrace.{hold_at_most_one}
 use Rattle.raft_safety.specs.Counted.{are_all_allowed, first_broken, is_elected_when}
 use Rattle.raft_safety.specs.Inner.CheckerState.{LeaderState, ServerState, config_in, knows}
 use Rattle.raft_safety.specs.Inner.Kept.{AreBounded, HaveLogs, Parts, commits_in, leaders_in, servers_in}
@@ -233,6 +236,14 @@ module _ {T ID D : Type 0} (k : Tests T ID D (Option D)) where
   -- a value of the candidate or leader of a term, if it has campaigned
   abbrev pub if_campaigned : {X : Type 0} → List (TraceEvent T ID D) → T → ID → X → Option X
   if_campaigned es t c x = if has_campaigned k t c es then Some x else None
+
+module _ {T ID D : Type 0} (k : Tests T ID D (Option D)) where
+  -- no config follows so many first entries exactly if they reach the first of these lengths, and at most
+  -- one does exactly if they reach the second
+  abbrev pub AreConfigLens : List (Entry T D) → ℕ × ℕ → Type 0
+  AreConfigLens log lens =
+      (n : ℕ) → (hold_no_config k (drop n log) ≡ nat_le lens.0 n)
+      × (hold_at_most_one k (drop n log) ≡ nat_le lens.1 n)
 
 -- the last of so many first entries, if there are so many
 abbrev pub entry_at : {T D : Type 0} → ℕ → List (Entry T D) → Option (Entry T D)

@@ -17,6 +17,7 @@ use Rattle.std.specs.Prelude.{
   ◌++◌,
   length,
   take,
+  drop,
   get_or,
   not,
   nat_le,
@@ -36,13 +37,16 @@ use Rattle.raft_safety.specs.Trace.{
   candidate_log_in,
   events_in,
   has_campaigned,
+  hold_no_config,
   leader_log_in,
   log_in,
   same_leader,
 }
-use Rattle.raft_safety.specs.Checker.{Keeps, entry_at, if_campaigned}
+use Rattle.raft_safety.specs.AppliedTrace.{hold_at_most_one}
+use Rattle.raft_safety.specs.Checker.{AreConfigLens, Keeps, entry_at, if_campaigned}
 use Rattle.raft_safety.specs.Events.{log_after}
-use Rattle.raft_safety.specs.Inner.CheckerState.{ServerState}
+use Rattle.raft_safety.specs.Inner.CheckerState.{ServerState, config_in, no_config_in}
+use Rattle.raft_safety.specs.Inner.Known.{at_most_one_in}
 use Rattle.raft_safety.specs.Inner.Kept.{Parts, leader_in, leaders_in, server_in, servers_in}
 use Rattle.raft_safety.specs.Inner.Seen.{find_server}
 use Rattle.raft_safety.specs.Inner.Logs.{log_at}
@@ -50,6 +54,7 @@ use Rattle.raft_safety.specs.Memberships.{EndsWith}
 use Rattle.raft_safety.specs.declared.checker.leader.Leader.{Leader}
 use Rattle.raft_safety.specs.declared.checker.server.Server.{Server}
 use Rattle.raft_safety.proofs.lemmas.CheckedLeaderLemmas.{none_found}
+use Rattle.raft_safety.proofs.lemmas.KnownElectionLemmas.{at_most_one_test, no_config_test}
 use Rattle.raft_safety.proofs.lemmas.CheckerLemmas.{leader_seen, no_leader_seen}
 use Rattle.raft_safety.proofs.lemmas.CheckerStepLemmas.{
   leader_place_in,
@@ -170,3 +175,21 @@ module _ {T ID D : Type 0} (k : Tests T ID D (Option D)) (exact : AreExact k) wh
       go (Some j) at =
           (leader_seen k exact es (leaders_in p) l.term l.id j (leader_in p.logs l) keeps.seen.see_leaders
           (leader_place_in k exact p l.term l.id (Some j) at)).campaigned
+
+  -- the lengths up to the last config of the first entries of a leader, and up to the config before
+  pub config_lens_read : (holds : D → Bool) → ((d : D) → k.config_of d ≡ config_in holds d)
+      → (es : List (TraceEvent T ID D)) (t : T) (c : ID) (p : Parts T ID D) (j n : ℕ) (l : Leader T ID)
+      (log last before : ℕ)
+      → position (λ (l : Leader T ID). same_leader k l.term l.id t c) p.leaders ≡ Some j → l ≡ get_or p.leaders j l
+      → log_at p.logs log ≡ take n (log_at p.logs l.log)
+      → ((m : ℕ) → no_config_in holds (drop m (log_at p.logs log)) ≡ nat_le last m)
+      → ((m : ℕ) → at_most_one_in holds (drop m (log_at p.logs log)) ≡ nat_le before m) → Keeps k es p
+      → AreConfigLens k (take n (leader_log_in k es t c)) (last, before)
+  config_lens_read holds holds_is es t c p j n l log last before at is first none one keeps m =
+      let sees = sees_leader_at k exact es p t c j l at is keeps in
+      let same : take n (leader_log_in k es t c) ≡ log_at p.logs log =
+      ap (λ x. take n x) sees.leader_log ∙ sym first in (
+        ap (λ x. hold_no_config k (drop m x)) same ∙ no_config_test k holds holds_is (drop m (log_at p.logs log)) ∙ none m,
+        ap (λ x. hold_at_most_one k (drop m x)) same ∙ at_most_one_test k holds holds_is (drop m (log_at p.logs log))
+            ∙ one m,
+      )

@@ -1,7 +1,7 @@
 //! What a checker has recorded of leaders.
 ghost use Rattle.std.specs.Prelude.{◌≡◌, ℕ, IfOk, IfSome, length, take, true};
 ghost use Rattle.std.specs.List.{position};
-ghost use Rattle.raft_safety.specs.Checker.{OfAll, configs_of, entry_at, if_campaigned, counting_of, kept_by, tests_when};
+ghost use Rattle.raft_safety.specs.Checker.{AreConfigLens, OfAll, configs_of, entry_at, if_campaigned, counting_of, kept_by, tests_when};
 ghost use Rattle.raft_safety.specs.Inner.Logs.{log_at};
 ghost use Rattle.raft_safety.specs.Trace.{candidate_log_in, has_campaigned, leader_log_in, log_in};
 
@@ -64,8 +64,15 @@ impl<T: Term, N: Copy + Eq, D: Copy + Eq, C: Configs<N, D> + Drop> Checker<T, N,
     /// Returns up to how many entries the last config is among so many first entries of a candidate or
     /// leader of a term, and up to how many the config before that one is, if the candidate has
     /// campaigned. The initial config is before all entries.
-    pub fn config_lens(&self, term: T, id: N, len: usize) -> Option<(usize, usize)> {
-        let j = leader_at(&self.leaders, &self.places, term, id)?;
+    pub fn config_lens(&self, term: T, id: N, len: usize) -> Option<(usize, usize)>
+        ensures { let k = tests_when (counting_of self.now) T.Term N.PartialEq D.PartialEq C.Configs
+            (configs_of self.now) in OfAll k (kept_by self.now) (λ es. IfSome result
+            (λ lens. AreConfigLens k (take len (leader_log_in k es term id)) lens)) }
+    {
+        let j = match leader_at(&self.leaders, &self.places, term, id) {
+            Some(j) => j,
+            None => return None,
+        };
         let log = self.logs.first(self.leaders[j].log, len);
         let last = self.logs.config(log);
         let before = config_before(&self.logs, log);

@@ -368,13 +368,3 @@ module _ (tests : ConfigsCount → Memberships ℕ ℕ → Tests ℕ ℕ ℕ (Op
           next.3,
         ),
   )
-
-  -- a judge refuses one event after the other
-  pub stays_both : (old mid new : Judge) → Stays tests old mid → Stays tests mid new → Stays tests old new
-  stays_both old mid new one two = (
-    goes_on old mid new one.0 two.0,
-    λ es keeps.
-        let first = one.1 es keeps in
-        let next = two.1 first.0 first.3 in
-        (next.0, next.1 ∙ first.1, next.2 ∙ first.2, next.3),
-  )
