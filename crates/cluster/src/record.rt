@@ -1,8 +1,8 @@
 //! The record of a cluster: what its servers have done, one event a line, as JSON that `raft_trace`
 //! judges.
 //!
-//! A log of the laws has no entry 0, so the first entry that a leader writes has index 1, and an index
-//! is a number of first entries.
+//! A log of the laws has no entry 0, so the first entry that a leader writes has index 1, and an
+//! index is a number of first entries.
 
 use crate::types::CommittedLeaderId;
 use raft_safety::entry::Entry as LawEntry;
@@ -85,8 +85,8 @@ fn server_of(act: &Act) -> u64 {
     }
 }
 
-/// Returns a number below 2^64 for a term, by which terms are ordered. A rank is a term number, or a
-/// term times 2^64 and a node, of which there are less than sixteen.
+/// Returns a number below 2^64 for a term, by which terms are ordered. A rank is a term number, or
+/// a term times 2^64 and a node, of which there are less than sixteen.
 fn number_of(term: Term) -> u64 {
     let rank = term.rank();
     let (term, node) = (

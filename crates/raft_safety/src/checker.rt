@@ -83,8 +83,8 @@ impl<T: Term, N: Copy + Eq, D: Copy + Eq, C: Configs<N, D> + Drop> Checker<T, N,
         Self::counting(alloc, ConfigsCount::WhenAppended, configs)
     }
 
-    /// Returns a checker of a cluster in which nothing has happened, and whose configs count in this
-    /// way.
+    /// Returns a checker of a cluster in which nothing has happened, and whose configs count in
+    /// this way.
     ///
     /// # Errors
     ///
@@ -178,8 +178,8 @@ impl<T: Term, N: Copy + Eq, D: Copy + Eq, C: Configs<N, D> + Drop> Checker<T, N,
         if self.leaders[j].elected {
             return Some(j);
         }
-        // If configs count once they are applied, a candidate may become elected by a commit, because
-        // its config is known then.
+        // If configs count once they are applied, a candidate may become elected by a commit,
+        // because its config is known then.
         if !self.counting.is_applied() {
             return None;
         }
@@ -205,8 +205,8 @@ impl<T: Term, N: Copy + Eq, D: Copy + Eq, C: Configs<N, D> + Drop> Checker<T, N,
     {
         let i = server_at(self.alloc, &mut self.servers, server)?;
         let rank = term.rank();
-        // A server has reached each term in which it has campaigned. So a campaign in a later term is
-        // no second one, and no leader has to be searched for.
+        // A server has reached each term in which it has campaigned. So a campaign in a later term
+        // is no second one, and no leader has to be searched for.
         if rank <= self.servers[i].term() {
             match leader_at(&self.leaders, &self.places, term, server) {
                 Some(_) => return Err(Violation::Rule(Rule::CampaignedTwice)),

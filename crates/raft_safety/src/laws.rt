@@ -42,16 +42,16 @@ pub fn joint_members_are_safe<T, ID: Copy + Ord, D>()
 /// If each config counts once it is applied, and candidates and leaders count by the rule, every
 /// history in which each server keeps the rules is safe.
 ///
-/// The rule: a candidate or leader counts by a config that it knows to be committed and that at most
-/// one config follows. Quorums of each new config intersect each other and those of the one before.
-/// A config is known to a candidate if a leader of an earlier term has committed it. It is known to
-/// a leader also if the leader has committed it, counting by an earlier config.
+/// The rule: a candidate or leader counts by a config that it knows to be committed and that at
+/// most one config follows. Quorums of each new config intersect each other and those of the one
+/// before. A config is known to a candidate if a leader of an earlier term has committed it. It is
+/// known to a leader also if the leader has committed it, counting by an earlier config.
 pub fn applied_configs_are_safe<T, ID: Copy + Ord, D, M>()
     ensures { AppliedConfigsAreSafe T ID D M }
 {}
 
-/// The rules of configs that count once they are applied follow from rules that each server can test
-/// by itself.
+/// The rules of configs that count once they are applied follow from rules that each server can
+/// test by itself.
 ///
 /// These are: a leader appends a config only once the last one in its log is known to it. A
 /// candidate or leader counts by a config that at most one config follows. This config is known to
@@ -107,8 +107,8 @@ pub fn traces_are_executions<T, ID: Copy + Ord, D, M>()
 {}
 
 /// A recorded trace of a cluster in which each config counts once it is applied, each of whose
-/// events passes the test of such traces after the earlier ones, is an execution. So it is safe, and
-/// no two servers in it have applied different entries at one index.
+/// events passes the test of such traces after the earlier ones, is an execution. So it is safe,
+/// and no two servers in it have applied different entries at one index.
 pub fn applied_traces_are_executions<T, ID: Copy + Ord, D, M>()
     ensures { AppliedTracesAreExecutions T ID D M }
 {}

@@ -51,8 +51,8 @@ pub fn check_each<T: Term, N: Copy + Eq, D: Copy + Eq, C: Configs<N, D> + Drop>(
     check_each_counting(alloc, ConfigsCount::WhenAppended, configs, lists)
 }
 
-/// Checks that lists of events, one of each server, have an order in which each event was allowed, if
-/// configs count in this way.
+/// Checks that lists of events, one of each server, have an order in which each event was allowed,
+/// if configs count in this way.
 ///
 /// It does what `check_each` does, by the rules for such configs.
 ///

@@ -53,8 +53,8 @@ pub enum Rule {
     /// If a config counts once it is applied, a leader counts by a config that it knows to be
     /// committed: by a leader of an earlier term, or by itself, counting by an earlier config.
     UnknownConfig,
-    /// If a config counts once it is applied, at most one config follows the one that a leader counts
-    /// by, among the entries that it commits.
+    /// If a config counts once it is applied, at most one config follows the one that a leader
+    /// counts by, among the entries that it commits.
     ConfigsFollow,
     /// A quorum has acknowledged what is committed.
     NoQuorum,

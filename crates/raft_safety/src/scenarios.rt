@@ -1,6 +1,6 @@
 //! Traces of clusters as examples: what clusters do is allowed, and so is safe, and what breaks a
-//! rule is refused. The tables of events are in `specs/Scenarios.antt`, and those of configs that count
-//! once they are applied in `specs/AppliedScenarios.antt`.
+//! rule is refused. The tables of events are in `specs/Scenarios.antt`, and those of configs that
+//! count once they are applied in `specs/AppliedScenarios.antt`.
 ghost use Rattle.raft_safety.specs.AppliedScenarios.{AreAppliedConfigs};
 ghost use Rattle.raft_safety.specs.Scenarios.{AreDisturbances, AreLeaderIds, AreMemberChanges, AreRefusedByRule, IsFigure8};
 

@@ -17,8 +17,8 @@ const SERVERS: usize = 7;
 /// How many characters of a name are shown.
 const NAME: usize = 10;
 
-/// How many characters there are for what happens. With so many, a row with five servers has at most
-/// 100 columns.
+/// How many characters there are for what happens. With so many, a row with five servers has at
+/// most 100 columns.
 const WORDS: usize = 32;
 
 /// What the signs mean.
@@ -71,9 +71,9 @@ pub struct Chart {
 }
 
 impl Chart {
-    /// Returns the chart of a cluster that starts as a line says, with a column for each voter of these
-    /// configs. If the chart is not wanted, it stays empty. A row has the number of its line or of its
-    /// event.
+    /// Returns the chart of a cluster that starts as a line says, with a column for each voter of
+    /// these configs. If the chart is not wanted, it stays empty. A row has the number of its line
+    /// or of its event.
     pub fn start(
         alloc: Global,
         line: &[u8],
@@ -129,8 +129,8 @@ impl Chart {
         Ok(())
     }
 
-    /// Begins with the line of this number, after so many events. The events that follow are the one that
-    /// the line says, and those that it needs.
+    /// Begins with the line of this number, after so many events. The events that follow are the
+    /// one that the line says, and those that it needs.
     pub fn begin(&mut self, number: u64, events: u64, line: &Value) -> Result<(), AllocError> {
         if !self.is_drawn {
             return Ok(());
@@ -220,8 +220,8 @@ impl Chart {
         }
     }
 
-    /// Takes note that a leader writes an entry. Draws a row if it is the first one in the term, or if
-    /// it changes the members.
+    /// Takes note that a leader writes an entry. Draws a row if it is the first one in the term, or
+    /// if it changes the members.
     fn note_entry(&mut self, place: usize, term: u64) -> Result<(), AllocError> {
         self.reach(place, term, 'L');
         if self.letters.get(&term).is_none() {
@@ -237,8 +237,8 @@ impl Chart {
         self.draw()
     }
 
-    /// Takes note that a leader commits entries. Draws a row if it has a column, and if no leader of the
-    /// term, or of a later one, has committed any.
+    /// Takes note that a leader commits entries. Draws a row if it has a column, and if no leader
+    /// of the term, or of a later one, has committed any.
     fn note_commit(&mut self, place: usize, term: u64, len: usize) -> Result<(), AllocError> {
         self.learn(place, len);
         self.committed = self.committed.max(len);
@@ -251,8 +251,8 @@ impl Chart {
         self.draw()
     }
 
-    /// Takes note that a server takes entries. Draws a row if they are those of a snapshot, or if others
-    /// are dropped.
+    /// Takes note that a server takes entries. Draws a row if they are those of a snapshot, or if
+    /// others are dropped.
     fn note_append(
         &mut self,
         place: usize,
@@ -301,8 +301,8 @@ impl Chart {
         Ok(letters)
     }
 
-    /// Returns the place of the column of a server, which gets one if fewer than seven have one. What
-    /// happens begins with the name of the server.
+    /// Returns the place of the column of a server, which gets one if fewer than seven have one.
+    /// What happens begins with the name of the server.
     fn place_of(&mut self, id: u64) -> Result<usize, AllocError> {
         self.words.clear();
         for (place, column) in self.servers.iter().enumerate() {

@@ -21,8 +21,8 @@ pub fn counted_before(checker: &Checking, term: u64, leader: u64, len: usize) ->
     }
 }
 
-/// Returns the commit of an event, counted by the config before, if the line does not say by which one
-/// the leader counts.
+/// Returns the commit of an event, counted by the config before, if the line does not say by which
+/// one the leader counts.
 pub fn counted_otherwise(checker: &Checking, value: &Value, event: &Act) -> Option<Act>
     ensures { IfSome result (λ other.
         SaysToo (view value.now) (trace_event event.now) (trace_event other)) }

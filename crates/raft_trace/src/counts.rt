@@ -53,7 +53,8 @@ impl Counts {
         })
     }
 
-    /// Returns how many servers occur in events, as voters of the start, or as voters of these memberships.
+    /// Returns how many servers occur in events, as voters of the start, or as voters of these
+    /// memberships.
     pub fn server_count(
         &self,
         alloc: Global,

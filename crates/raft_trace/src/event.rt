@@ -22,8 +22,8 @@ pub type Act = Event<u64, u64, u64>;
 pub type Checking = Checker<u64, u64, u64, Memberships<u64, u64>>;
 
 /// Returns the event that a line says. `first` is the index of the first entry, `committed_by` the
-/// greatest term of which a leader has committed entries, with this leader, and `checker` knows what
-/// leaders have written.
+/// greatest term of which a leader has committed entries, with this leader, and `checker` knows
+/// what leaders have written.
 pub fn event_of(
     alloc: Global,
     names: &Names,
@@ -183,8 +183,8 @@ fn wrote(names: &Names, value: &Value) -> Option<Act>
     })
 }
 
-/// Returns the event that a leader commits entries up to an index. If the line does not say by which of
-/// its entries the leader counted, the checker does.
+/// Returns the event that a leader commits entries up to an index. If the line does not say by
+/// which of its entries the leader counted, the checker does.
 fn committed(names: &Names, value: &Value, first: u64, checker: &Checking) -> Option<Act>
     ensures { IfSome result (λ e.
         Says (numbering names.now) first (view value.now) (trace_event e)) }
@@ -232,9 +232,9 @@ fn applied(
     })
 }
 
-/// Returns by how many of its first entries a leader counts that commits so many, if no line says so. If
-/// configs count from their append on, these are all that it has written. If configs count once they
-/// are applied, these are the ones up to the last config that it commits.
+/// Returns by how many of its first entries a leader counts that commits so many, if no line says
+/// so. If configs count from their append on, these are all that it has written. If configs count
+/// once they are applied, these are the ones up to the last config that it commits.
 pub fn counted_at(checker: &Checking, term: u64, leader: u64, len: usize) -> Option<usize> {
     match checker.configs_count() {
         ConfigsCount::WhenAppended => checker.leader_len(term, leader),

@@ -174,8 +174,8 @@ impl Facts {
         self.acks.get(&server).copied()
     }
 
-    /// Returns who has written the last of so many first entries, which is of this term, and where the
-    /// line is.
+    /// Returns who has written the last of so many first entries, which is of this term, and where
+    /// the line is.
     pub fn written(&self, term: u64, len: usize) -> Option<(u64, Place)> {
         let written = self.written.get(&term)?;
         let number = len.checked_sub(written.start)?.checked_sub(1)?;

@@ -93,8 +93,8 @@ pub fn configs_count(value: &Value) -> Option<ConfigsCount>
     None
 }
 
-/// Returns the length of a log whose last entry has the index that a field has. `first` is the index
-/// of the first entry.
+/// Returns the length of a log whose last entry has the index that a field has. `first` is the
+/// index of the first entry.
 pub fn len(value: &Value, name: &str, first: u64) -> Option<usize>
     ensures { IfSome result (λ n. IsLen name.now first n (view value.now)) }
 {

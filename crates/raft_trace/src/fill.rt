@@ -14,7 +14,8 @@ use raft_safety::event::Event;
 use serde_json::Value;
 use std::alloc::{AllocError, Global};
 
-/// How many of the newest leaders are tried as the one whose entries a server has read from its disk.
+/// How many of the newest leaders are tried as the one whose entries a server has read from its
+/// disk.
 const TRIED: usize = 64;
 
 impl Judge {
@@ -36,8 +37,8 @@ impl Judge {
         }
     }
 
-    /// Fills in that a leader commits what a server has applied. It is one of the last leaders that the
-    /// server has followed.
+    /// Fills in that a leader commits what a server has applied. It is one of the last leaders that
+    /// the server has followed.
     fn fill_in_commit(&mut self, value: &Value) -> Result<(), AllocError>
         ensures { OnOk result (Fills number_tests self.old self.new) }
     {
@@ -76,8 +77,8 @@ impl Judge {
         Ok(false)
     }
 
-    /// Commits so many first entries of a leader, and more until an entry of its term is the last one,
-    /// if that is allowed. Returns whether it is.
+    /// Commits so many first entries of a leader, and more until an entry of its term is the last
+    /// one, if that is allowed. Returns whether it is.
     fn commit_by(&mut self, term: u64, leader: u64, len: usize) -> Result<bool, AllocError>
         ensures { OnOk result (Fills number_tests self.old self.new) }
     {
@@ -97,8 +98,8 @@ impl Judge {
         }
     }
 
-    /// Commits so many first entries of a leader, which counts by so many of them, if that is allowed.
-    /// Returns whether it is.
+    /// Commits so many first entries of a leader, which counts by so many of them, if that is
+    /// allowed. Returns whether it is.
     fn commit_at(
         &mut self,
         term: u64,
@@ -117,8 +118,8 @@ impl Judge {
         self.add(&event)
     }
 
-    /// Acknowledges so many first entries to the last leader which a server has followed that they may
-    /// be acknowledged to. Returns whether there is one.
+    /// Acknowledges so many first entries to the last leader which a server has followed that they
+    /// may be acknowledged to. Returns whether there is one.
     fn acknowledge(&mut self, server: u64, len: usize) -> Result<bool, AllocError>
         ensures { OnOk result (Fills number_tests self.old self.new) }
     {
@@ -133,8 +134,8 @@ impl Judge {
         Ok(false)
     }
 
-    /// Acknowledges so many first entries to a leader, if they are not acknowledged yet, and if that is
-    /// allowed. Returns whether it is.
+    /// Acknowledges so many first entries to a leader, if they are not acknowledged yet, and if
+    /// that is allowed. Returns whether it is.
     fn acknowledge_to(
         &mut self,
         server: u64,
@@ -155,8 +156,8 @@ impl Judge {
         self.add(&event)
     }
 
-    /// Fills in that a server has taken the entries that it has read from its disk, if its log does not
-    /// end so. They are of the newest leader that has them.
+    /// Fills in that a server has taken the entries that it has read from its disk, if its log does
+    /// not end so. They are of the newest leader that has them.
     fn fill_in_append(&mut self, alloc: Global, value: &Value) -> Result<(), AllocError>
         ensures { OnOk result (Fills number_tests self.old self.new) }
     {
@@ -191,8 +192,8 @@ impl Judge {
         }
     }
 
-    /// Appends so many first entries of a leader, if they end with an entry of a term, and if that is
-    /// allowed. Returns whether it is.
+    /// Appends so many first entries of a leader, if they end with an entry of a term, and if that
+    /// is allowed. Returns whether it is.
     fn append_from(
         &mut self,
         alloc: Global,

@@ -5,7 +5,8 @@ use raft_safety::event::Event;
 use std::alloc::{AllocError, Global};
 use std::collections::BTreeMap;
 
-/// How many leaders are kept of a server. A server applies what one of its last leaders has committed.
+/// How many leaders are kept of a server. A server applies what one of its last leaders has
+/// committed.
 pub const KEPT: usize = 4;
 
 /// A leader that a server has followed.

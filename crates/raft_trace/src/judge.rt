@@ -44,8 +44,8 @@ pub struct Judge {
     pub chart: Chart,
 }
 
-/// Returns the judge of a cluster that starts as the line says. It draws a chart if that is wanted, by the
-/// numbers of lines if there is one list alone.
+/// Returns the judge of a cluster that starts as the line says. It draws a chart if that is wanted,
+/// by the numbers of lines if there is one list alone.
 pub fn start(alloc: Global, line: &[u8], is_drawn: bool, is_alone: bool) -> Result<Judge, Fault>
     ensures { IfOk result (λ j. IsStarted number_tests line.now j) }
 {
@@ -71,13 +71,13 @@ pub fn start(alloc: Global, line: &[u8], is_drawn: bool, is_alone: bool) -> Resu
 }
 
 impl Judge {
-    /// Takes the next line, which is at this place. An empty line says nothing, and a vote that a server
-    /// sends again is left out. `fills` says whether events may be filled in.
+    /// Takes the next line, which is at this place. An empty line says nothing, and a vote that a
+    /// server sends again is left out. `fills` says whether events may be filled in.
     ///
     /// # Errors
     ///
-    /// Why the line is not taken. If it breaks a rule, the judge still has taken the lines before, so
-    /// it may take another one.
+    /// Why the line is not taken. If it breaks a rule, the judge still has taken the lines before,
+    /// so it may take another one.
     pub fn take(
         &mut self,
         alloc: Global,
@@ -116,8 +116,9 @@ impl Judge {
         }
     }
 
-    /// Takes the event that the value of a line says, whose entry holds no membership. If the line does
-    /// not say by which config a leader counts, another one is tried once the first one is refused.
+    /// Takes the event that the value of a line says, whose entry holds no membership. If the line
+    /// does not say by which config a leader counts, another one is tried once the first one is
+    /// refused.
     fn take_counted(&mut self, place: Place, value: &Value, event: &Act) -> Result<(), Fault>
         ensures taken { let number_of = numbering self.old.names in OnOk result
             (Says number_of self.old.first (view value.now) (trace_event event.now) →
@@ -234,8 +235,8 @@ impl Judge {
         }
     }
 
-    /// Takes the next event, that a leader writes an entry of a content which holds a membership. None
-    /// is known of this content.
+    /// Takes the next event, that a leader writes an entry of a content which holds a membership.
+    /// None is known of this content.
     fn take_new_membership(
         &mut self,
         place: Place,
@@ -304,8 +305,8 @@ impl Judge {
     }
 }
 
-/// Returns the membership that the entry of an event holds, and the content of the entry, if the line
-/// says one.
+/// Returns the membership that the entry of an event holds, and the content of the entry, if the
+/// line says one.
 fn membership(
     alloc: Global,
     names: &Names,

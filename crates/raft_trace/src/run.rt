@@ -46,11 +46,11 @@ impl From<AllocError> for Stop {
     }
 }
 
-/// Judges lists of lines, and writes the answer, after a chart of the run if that is wanted. The order of
-/// each list is kept, and no order between the lists is known.
+/// Judges lists of lines, and writes the answer, after a chart of the run if that is wanted. The
+/// order of each list is kept, and no order between the lists is known.
 ///
-/// Returns the exit status: 0 if the run is safe, 1 if the next line of each list breaks a rule, 2 if a
-/// line is no event, and 3 if an input cannot be read, or if there is no memory.
+/// Returns the exit status: 0 if the run is safe, 1 if the next line of each list breaks a rule, 2
+/// if a line is no event, and 3 if an input cannot be read, or if there is no memory.
 pub fn run<B: BufRead>(
     alloc: Global,
     lists: &mut [Lines<B>],
@@ -68,7 +68,8 @@ pub fn run<B: BufRead>(
     }
 }
 
-/// Judges lists of lines, of which the first one begins with the line that says how the cluster starts.
+/// Judges lists of lines, of which the first one begins with the line that says how the cluster
+/// starts.
 fn judge_lists<B: BufRead>(
     alloc: Global,
     lists: &mut [Lines<B>],
@@ -91,8 +92,8 @@ fn judge_lists<B: BufRead>(
     }
 }
 
-/// Takes the first line of the first list. Returns this line, and the judge of a cluster that starts as
-/// it says.
+/// Takes the first line of the first list. Returns this line, and the judge of a cluster that
+/// starts as it says.
 fn begin<B: BufRead>(
     alloc: Global,
     lists: &mut [Lines<B>],
@@ -115,10 +116,12 @@ fn begin<B: BufRead>(
     Ok((line, judge))
 }
 
-/// Takes lines of the lists, until the next line of each list is refused, or all lists are at their end.
+/// Takes lines of the lists, until the next line of each list is refused, or all lists are at their
+/// end.
 ///
-/// After a line that is taken, the next one is of the same list. After one that is refused, it is of
-/// the next list. Events are filled in only if the next line of each list is refused without them.
+/// After a line that is taken, the next one is of the same list. After one that is refused, it is
+/// of the next list. Events are filled in only if the next line of each list is refused without
+/// them.
 ///
 /// # Errors
 ///
@@ -158,8 +161,8 @@ fn take_lines<B: BufRead>(
     Err((at, Stop::from(AllocError)))
 }
 
-/// Returns how many lines in a row are refused before a run is judged no further. If there are several
-/// lists, the next line of each is tried twice.
+/// Returns how many lines in a row are refused before a run is judged no further. If there are
+/// several lists, the next line of each is tried twice.
 fn tries(lists: usize) -> usize
     ensures { result ≤ 2 * lists }
 {
@@ -170,8 +173,9 @@ fn tries(lists: usize) -> usize
     }
 }
 
-/// Whether events may be filled in for the next line, after so many lines in a row were refused. If there
-/// are several lists, a line of another list may say what the next line lacks, so that is tried first.
+/// Whether events may be filled in for the next line, after so many lines in a row were refused. If
+/// there are several lists, a line of another list may say what the next line lacks, so that is
+/// tried first.
 fn may_fill_in(refused: usize, lists: usize) -> bool {
     lists <= 1 || refused >= lists
 }
@@ -246,8 +250,8 @@ fn are_ended<B: BufRead>(lists: &[Lines<B>]) -> bool
     true
 }
 
-/// Writes the chart, and then that the run is safe if all lists are at their end, or the lines that they
-/// wait with. Returns the exit status.
+/// Writes the chart, and then that the run is safe if all lists are at their end, or the lines that
+/// they wait with. Returns the exit status.
 fn push_verdict<B: BufRead>(
     alloc: Global,
     answer: &mut String,
@@ -266,9 +270,8 @@ fn push_verdict<B: BufRead>(
     Ok(0)
 }
 
-/// Writes the line that each list waits with, why, and which line it contradicts. The list that waits
-/// longest comes first.
-/// Returns the exit status.
+/// Writes the line that each list waits with, why, and which line it contradicts. The list that
+/// waits longest comes first. Returns the exit status.
 fn push_waiting<B>(
     alloc: Global,
     answer: &mut String,
@@ -322,8 +325,8 @@ fn push_wait<B>(
     Ok(())
 }
 
-/// Writes the chart, if there is one, and why the list at a place is judged no further. Returns the exit
-/// status.
+/// Writes the chart, if there is one, and why the list at a place is judged no further. Returns the
+/// exit status.
 fn push_stop<B>(
     alloc: Global,
     answer: &mut String,

@@ -36,8 +36,8 @@ pub fn start_of(alloc: Global, names: &mut Names, line: &[u8]) -> Result<Option<
     }
 }
 
-/// Whether two lines say that the cluster starts, with the same configs and the same first index, and
-/// configs count in the same way.
+/// Whether two lines say that the cluster starts, with the same configs and the same first index,
+/// and configs count in the same way.
 pub fn say_one_start(alloc: Global, line: &[u8], other: &[u8]) -> Result<bool, AllocError>
     ensures { IfOk result (λ say. IsTrue say → SayOneStart line.now other.now) }
 {

@@ -11,8 +11,9 @@ use crate::run::run;
 use std::alloc::{AllocError, Global};
 use std::test::Fail;
 
-/// The cluster of the rows: server 1 leads in term 1 by the vote of server 2, and writes an entry, which
-/// is the second of the engine. Server 2 takes it. Server 3, which has no entry, campaigns in term 2.
+/// The cluster of the rows: server 1 leads in term 1 by the vote of server 2, and writes an entry,
+/// which is the second of the engine. Server 2 takes it. Server 3, which has no entry, campaigns in
+/// term 2.
 const LED: &str = r#"{"event":"started","voters":[[1,2,3]],"first":2}
 {"event":"campaigned","server":1,"term":1}
 {"event":"granted","server":2,"term":1,"candidate":1}
@@ -75,7 +76,8 @@ const ROWS: [(&str, u8, &str); 18] = [
         1,
         "line 9: server 1 applies up to index 2: the entries are not known to be committed\n",
     ),
-    // Server 2 has the entry and has applied it, so it has acknowledged it, and the leader has committed it.
+    // Server 2 has the entry and has applied it, so it has acknowledged it, and the leader has
+    // committed it.
     (
         r#"{"event":"applied","server":2,"index":2}
 {"event":"applied","server":1,"index":2}"#,
@@ -147,8 +149,8 @@ fn is_answered(alloc: Global, row: &str, status: u8, answer: &str) -> Result<boo
 /// The names of lists, in their order.
 const NAMES: [&str; 3] = ["a", "b", "c"];
 
-/// Lists of lines, which `--` separates, and the status and the answer. Server 1 leads in term 1 by the
-/// vote of server 2.
+/// Lists of lines, which `--` separates, and the status and the answer. Server 1 leads in term 1 by
+/// the vote of server 2.
 const LISTS: [(&str, u8, &str); 10] = [
     // Each server has its own list.
     (
@@ -171,7 +173,8 @@ const LISTS: [(&str, u8, &str); 10] = [
         0,
         "safe: 10 events, 3 servers, 1 term with a leader, 1 committed, 0 membership changes\n",
     ),
-    // The second list waits for a leader of which no line says anything, and the third one for the second.
+    // The second list waits for a leader of which no line says anything, and the third one for the
+    // second.
     (
         r#"{"event":"started","voters":[[1,2,3]]}
 {"event":"campaigned","server":1,"term":1}

@@ -29,8 +29,8 @@ pub struct Commit {
     pub log: usize,
 }
 
-/// Whether a commit covers all entries of a log, and is of an earlier term than this one, or of this
-/// one and counted at a shorter length.
+/// Whether a commit covers all entries of a log, and is of an earlier term than this one, or of
+/// this one and counted at a shorter length.
 fn covers<T: Term, D: Copy + Eq>(
     logs: &Logs<T, D>,
     commit: &Commit,
@@ -92,7 +92,8 @@ fn is_covered<T: Term, D: Copy + Eq>(
     false
 }
 
-/// Returns the log up to the config before the last config of a log, the empty log if there is none.
+/// Returns the log up to the config before the last config of a log, the empty log if there is
+/// none.
 pub fn config_before<T: Term, D: Copy + Eq>(logs: &Logs<T, D>, log: usize) -> usize
     ensures config { (holds : D → Bool) → AreLogs holds logs.now → log < length logs.now.logs →
         result ≤ config_at logs.now log }
@@ -137,8 +138,8 @@ fn is_elected_by<T: Term, N: Copy + Eq, D: Copy + Eq, C: Configs<N, D>>(
     configs.is_quorum(logs.config_content(config), &leader.voters)
 }
 
-/// Whether a candidate is elected: by the last config of its log or by the one before it, if that one
-/// is known to it.
+/// Whether a candidate is elected: by the last config of its log or by the one before it, if that
+/// one is known to it.
 fn is_elected_by_known<T: Term, N: Copy + Eq, D: Copy + Eq, C: Configs<N, D>>(
     configs: &C,
     logs: &Logs<T, D>,

@@ -70,8 +70,8 @@ impl<T: Term, N: Copy + Ord, D: Copy + Eq> Checker<T, N, D, Memberships<N, D>> {
         Ok(())
     }
 
-    /// Forgets the membership that was learned last, unless an entry of its content was recorded. An
-    /// engine calls this if the event for which it learned the membership is refused.
+    /// Forgets the membership that was learned last, unless an entry of its content was recorded.
+    /// An engine calls this if the event for which it learned the membership is refused.
     pub fn forget(&mut self)
         ensures keeps { KeepsAlso (tests_when (counting_of self.old) T.Term N.PartialEq D.PartialEq
             ⟦<Memberships<N, D> as Configs<N, D>>⟧ (configs_of self.old)) (tests_when (counting_of self.new) T.Term

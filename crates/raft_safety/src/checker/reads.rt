@@ -17,8 +17,8 @@ use crate::term::Term;
 use std::alloc::{AllocError, Global};
 
 impl<T: Term, N: Copy + Eq, D: Copy + Eq, C: Configs<N, D> + Drop> Checker<T, N, D, C> {
-    /// Returns the first entries of the log of a candidate or leader of a term, so many of them, if it
-    /// has so many. A server that installs a snapshot takes these entries.
+    /// Returns the first entries of the log of a candidate or leader of a term, so many of them, if
+    /// it has so many. A server that installs a snapshot takes these entries.
     pub fn leader_entries(
         &self,
         alloc: Global,
@@ -61,8 +61,8 @@ impl<T: Term, N: Copy + Eq, D: Copy + Eq, C: Configs<N, D> + Drop> Checker<T, N,
         self.counting
     }
 
-    /// Returns up to how many entries the last config is among so many first entries of a candidate or
-    /// leader of a term, and up to how many the config before that one is, if the candidate has
+    /// Returns up to how many entries the last config is among so many first entries of a candidate
+    /// or leader of a term, and up to how many the config before that one is, if the candidate has
     /// campaigned. The initial config is before all entries.
     pub fn config_lens(&self, term: T, id: N, len: usize) -> Option<(usize, usize)>
         ensures { let k = tests_when (counting_of self.now) T.Term N.PartialEq D.PartialEq C.Configs
@@ -79,7 +79,8 @@ impl<T: Term, N: Copy + Eq, D: Copy + Eq, C: Configs<N, D> + Drop> Checker<T, N,
         Some((self.logs.len(last), self.logs.len(before)))
     }
 
-    /// Returns how many entries the log of a candidate or leader of a term has, if it has campaigned.
+    /// Returns how many entries the log of a candidate or leader of a term has, if it has
+    /// campaigned.
     pub fn leader_len(&self, term: T, id: N) -> Option<usize>
         ensures { let k = tests_when (counting_of self.now) T.Term N.PartialEq D.PartialEq C.Configs (configs_of self.now) in
             OfAll k (kept_by self.now) (λ es. result
@@ -104,8 +105,8 @@ impl<T: Term, N: Copy + Eq, D: Copy + Eq, C: Configs<N, D> + Drop> Checker<T, N,
         }
     }
 
-    /// Returns the last of so many first entries of the log of a candidate or leader of a term, if it
-    /// has so many.
+    /// Returns the last of so many first entries of the log of a candidate or leader of a term, if
+    /// it has so many.
     pub fn leader_entry(&self, term: T, id: N, len: usize) -> Option<Entry<T, D>>
         ensures { let k = tests_when (counting_of self.now) T.Term N.PartialEq D.PartialEq C.Configs (configs_of self.now) in
             OfAll k (kept_by self.now) (λ es. result ≡ entry_at len (leader_log_in k es term id)) }

@@ -40,8 +40,8 @@ impl Column {
         Ok(dropped)
     }
 
-    /// Draws the role, the term, and the part of the log after so many entries, with a bar after what
-    /// the server knows to be committed.
+    /// Draws the role, the term, and the part of the log after so many entries, with a bar after
+    /// what the server knows to be committed.
     pub fn draw(&self, first: usize, chart: &mut String) -> Result<(), AllocError> {
         write!(chart, "{}{:<2} ", self.role, self.term % 100)?;
         let end = first.saturating_add(WIDTH);

@@ -62,7 +62,8 @@ const ROWS: [(&[&str], u8, &str); 10] = [
         0,
         "safe: 8 events, 4 servers, 1 term with a leader, 1 committed, 1 membership change\n",
     ),
-    // The next config is committed by the first one, which is known then, and a command by the next one.
+    // The next config is committed by the first one, which is known then, and a command by the next
+    // one.
     (
         &[
             APPLIED,

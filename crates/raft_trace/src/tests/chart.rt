@@ -8,7 +8,8 @@ use std::test::Fail;
 
 /// Runs, and the rows of their charts.
 const CHARTS: [(&str, &str); 2] = [
-    // A restart loses an entry, a follower installs a snapshot, and the old leader truncates its log.
+    // A restart loses an entry, a follower installs a snapshot, and the old leader truncates its
+    // log.
     (
         r#"{"event":"started","voters":[["n1","n2","10.0.0.3:2380"]]}
 {"event":"campaigned","server":"n1","term":1}
