@@ -126,6 +126,17 @@ records() {
         < <(start; printf '{"x":"'; ten_megabytes a; printf '","event":"campaigned","server":1,"term":1}\n')
     compare "carriage returns" 0 "safe: 1 event, $safe" "" trace \
         < <(start; printf '{"event":"campaigned","server":1,"term":1}\r\n')
+    compare "a field twice, of which the last counts" 0 "safe: 2 events, $safe" "" trace \
+        < <(start; printf '{"event":"campaigned","server":1,"term":7,"term":1}\n'
+            printf '{"event":"granted","server":2,"term":1,"candidate":1}\n')
+    for number in 18446744073709551616 1e2; do
+        compare "the term $number" 2 \
+            "line 2: \`campaigned\` needs the text or number \`server\`, and the number \`term\`" "" trace \
+            < <(start; printf '{"event":"campaigned","server":1,"term":%s}\n' "$number")
+    done
+    compare "20,000 servers" 0 \
+        "safe: 20,000 events, 20,000 servers, 0 terms with a leader, 0 committed, 0 membership changes" "" trace \
+        < <(start; seq 20000 | sed 's/.*/{"event":"campaigned","server":&,"term":1}/')
     compare "empty lines in a record" 0 "safe: 0 events, $safe" "" trace \
         < <(start; yes '' | head -n 100000)
     compare "an index of 2^63" 1 "line 2: server 1 restarts with index 9223372036854775808: the server does not have so many entries" \
