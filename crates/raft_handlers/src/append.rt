@@ -28,9 +28,9 @@ use raft_state::{EntryOf, RaftStateIn, VoteStateReader};
 /// Returns the response, and what has changed. Write that to disk before you answer, the vote first.
 ///
 /// After an error the vote is the leader's, and the log may be truncated at the first new entry or
-/// have the new entries already (`refuses`). What is committed stays. Write the vote and the log to
-/// disk as the state has them, or treat the error as a crash, and restart from the disk. Both are
-/// right, because no answer was sent.
+/// have the new entries already (`refuses`). What is committed stays. Treat the error as a crash, and
+/// restart from the disk. Or write the vote and the log to disk as the state has them: a later call
+/// says only what it changes itself. Both are right, because no answer was sent.
 pub fn handle_append_entries<
     NID: NodeId,
     N: Node,

@@ -22,10 +22,11 @@ pub struct Changes<C> {
 pub struct SnapshotChanges {
     /// Whether the vote is new.
     pub vote: bool,
-    /// Whether the snapshot was installed. The state machine and the disk take it, and the disk
-    /// drops the entries up to its last log id. All up to there is committed.
+    /// Whether the snapshot was installed. The state machine and the disk take it, and then the disk
+    /// drops entries. All up to its last log id is committed.
     pub installed: bool,
-    /// Whether the entries past the snapshot are dropped too, because the log did not have the last
-    /// log id of the snapshot.
+    /// Whether the disk drops all entries, because the log did not have the last log id of the
+    /// snapshot: from the last one to the first, so that a restart finds an interruption. Otherwise
+    /// it drops the entries up to that log id.
     pub drops_log: bool,
 }

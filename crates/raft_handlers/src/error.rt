@@ -8,7 +8,8 @@ use thiserror::Error;
 /// Why a request to append entries is refused.
 #[derive(Debug, Clone, Copy, PartialEq, Eq, Error)]
 pub enum AppendError {
-    /// An allocation failed. The call may be made again.
+    /// An allocation failed. Write the vote and the log to disk as the state has them before you
+    /// make the call again, because it says only what it changes itself.
     #[error("out of memory")]
     OutOfMemory,
     /// The entries do not have consecutive indexes after `prev`, or their leaders fall.
@@ -39,7 +40,8 @@ impl From<AllocError> for AppendError {
 /// Why a request to install a snapshot is refused.
 #[derive(Debug, Clone, Copy, PartialEq, Eq, Error)]
 pub enum SnapshotError {
-    /// An allocation failed. The call may be made again.
+    /// An allocation failed. Write the vote to disk as the state has it before you make the call
+    /// again, because it says only what it changes itself.
     #[error("out of memory")]
     OutOfMemory,
     /// The snapshot may not take the place of the log.

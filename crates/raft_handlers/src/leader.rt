@@ -105,8 +105,10 @@ impl<NID: NodeId, N: Node, C: Ord + Copy + Drop> Leader<NID, N, C> {
     /// Makes the node of a committed vote the leader anew, as after a restart.
     ///
     /// Call it only if the log has every entry that the node has sent in this term. Otherwise the
-    /// leader could write another entry under a log id that a follower has already. The state does
-    /// not show what was sent, so this is not tested.
+    /// leader could write another entry under a log id that a follower has already. Nor may the
+    /// node add a member with an empty disk that it has removed in this term: requests are numbered
+    /// from 1 on again, so a late acknowledgement of the member's earlier life could be taken. The
+    /// state does not show what was sent, so this is not tested.
     pub fn resume<I: Instant, L: LeaderIdentity<Id = NID, Committed = C> + Drop>(
         id: NID,
         state: &State<NID, N, I, L>,

@@ -26,10 +26,11 @@ impl<NID: NodeId, N: Node, C: Ord + Copy + Drop> Leader<NID, N, C> {
     /// snapshot.
     ///
     /// If 16 or more indexes are between what the member matches and the searching end, the last
-    /// log id that both logs have is searched for, and no request has more than one entry. Of eight
-    /// requests the first two are probes: they have no entries, and ask whether the member has the
-    /// log id before the searching end. The others halve what is searched. So a member that has the
-    /// whole log is sent none of it again, and if probes are lost, others follow.
+    /// log id that both logs have is searched for, and no request has more than one entry. Requests
+    /// whose number leaves 1 or 2 when divided by 8 are probes: they have no entries, and ask
+    /// whether the member has the log id before the searching end. The others halve what is
+    /// searched. So a member that has the whole log is sent none of it again, and if probes are
+    /// lost, others follow.
     ///
     /// `InflightOf::None` means that there is nothing to send, that something is in flight already,
     /// or that a send is not allowed (`can_send`): send a heartbeat. The result is `None` if the id
