@@ -61,12 +61,13 @@ impl Record {
         Ok(())
     }
 
-    /// Adds the line of an act to the list of its server, or to the only list.
-    pub fn push(&mut self, act: &Act) -> Result<(), AllocError> {
+    /// Adds the line of an act to the list of its server, or to the only list. `log` is the log of the
+    /// server after the event.
+    pub fn push(&mut self, act: &Act, log: &[Entry]) -> Result<(), AllocError> {
         let others = self.lists.len().saturating_sub(1);
         let place = server_of(act).saturating_sub(1) as usize;
         match self.lists.get_mut(place.min(others)) {
-            Some(list) => push_line(list, act, &self.voters),
+            Some(list) => push_line(list, act, log, &self.voters),
             None => Ok(()),
         }
     }
@@ -96,10 +97,23 @@ fn number_of(term: Term) -> u64 {
     (term as u64).saturating_mul(16).saturating_add(node as u64)
 }
 
+/// Returns the index of an entry of a log: of the last one, if equal entries are in the log.
+fn index_of(log: &[Entry], entry: &Entry) -> usize {
+    let mut index = log.len();
+    for other in log.iter().rev() {
+        if other.term == entry.term && other.content == entry.content {
+            break;
+        }
+        index = index.saturating_sub(1);
+    }
+    index
+}
+
 /// Writes the line of an act.
 fn push_line(
     list: &mut String,
     act: &Act,
+    log: &[Entry],
     voters: &BTreeMap<u64, String>,
 ) -> Result<(), AllocError> {
     match act {
@@ -124,8 +138,9 @@ fn push_line(
         } => {
             write!(
                 list,
-                "{{\"event\":\"wrote\",\"leader\":{leader},\"term\":{},\"content\":{}",
+                "{{\"event\":\"wrote\",\"leader\":{leader},\"term\":{},\"index\":{},\"content\":{}",
                 number_of(*term),
+                index_of(log, entry),
                 entry.content
             )?;
             if let Some(configs) = voters.get(&entry.content) {
@@ -172,10 +187,16 @@ fn push_line(
             list,
             "{{\"event\":\"applied\",\"server\":{server},\"index\":{len}}}"
         )?,
-        Event::Restarted { server, len } => writeln!(
-            list,
-            "{{\"event\":\"restarted\",\"server\":{server},\"index\":{len}}}"
-        )?,
+        Event::Restarted { server, len } => {
+            write!(
+                list,
+                "{{\"event\":\"restarted\",\"server\":{server},\"index\":{len}"
+            )?;
+            if let Some(last) = len.checked_sub(1).and_then(|place| log.get(place)) {
+                write!(list, ",\"last_term\":{}", number_of(last.term))?;
+            }
+            writeln!(list, "}}")?;
+        }
     }
     Ok(())
 }

@@ -111,8 +111,13 @@ impl Trace {
     /// The rule that the first refused act breaks, or out of memory.
     pub fn record(&mut self, view: &View, said: Said) -> Result<(), Violation> {
         let acts = self.acts(view, said)?;
+        let place = view.server.saturating_sub(1) as usize;
+        let log = match self.servers.get(place) {
+            Some(server) => server.log.as_slice(),
+            None => &[],
+        };
         for act in &acts {
-            self.record.push(act)?;
+            self.record.push(act, log)?;
             match self.checker.record(act) {
                 Ok(()) => self.allowed = self.allowed.saturating_add(1),
                 Err(violation) => {
