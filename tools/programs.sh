@@ -9,7 +9,8 @@
 # simulated cluster, without a fault and with each planted one, with the rule that names the fault.
 # `seeds` runs the cluster: 2,000 seeds and long runs, each of which must be safe and converge and never be long without a
 # commit, and 300 seeds with each planted fault, which some must show. It also runs 50 seeds over openraft's
-# default leader ids, by a copy of the sources that is not proved. Without a word the tool does both.
+# default leader ids, and one with a planted fault, by a copy of the sources that is not proved. Without a word the tool
+# does both.
 set -u -o pipefail
 cd "$(dirname "$0")/.."
 crate=crates/raft_script
@@ -302,6 +303,13 @@ run_seeds() {
     count "seeds $*" $is "status $status, $(tail -n 4 <<< "$said")"
 }
 
+# Builds a copy of the cluster without a proof, runs it, and records its first cluster: the copy, and the options.
+try_copy() {
+    local copy=$1
+    shift
+    (cd "$copy/crates/cluster" && rt try --seconds 600 -- "trace=$record" "$@" 2>&1)
+}
+
 # Runs the cluster over openraft's default leader ids: a copy of the sources with two other aliases.
 run_default_leader_ids() {
     local copy said is=wrong
@@ -312,13 +320,17 @@ run_default_leader_ids() {
     sed -i 's/raft_base::leader_id_std::LeaderId<u64>;/raft_base::LeaderId<u64>;/
         s/raft_base::leader_id_std::CommittedLeaderId;/raft_base::CommittedLeaderId<u64>;/' \
         "$copy/crates/cluster/src/types.rt"
-    said=$(cd "$copy/crates/cluster" && rt try --seconds 600 -- chart=0 seeds=50 events=1500 "trace=$record" 2>&1)
+    said=$(try_copy "$copy" chart=0 seeds=50 events=1500)
     echo "seeds over the default leader ids:"
     grep -E '^([0-9,]+ (elections?|of)|longest time)' <<< "$said" | sed 's/^/    /'
     grep -q '^50 of 50 clusters safe and converged' <<< "$said" \
         && [ "$(grep -c '_std::' "$copy/crates/cluster/src/types.rt")" = 0 ] && is=right
     count "the default leader ids" $is "$(tail -n 3 <<< "$said")"
     judge "the default leader ids, the first cluster recorded" 0 "safe: " "" "$record"
+    : > "$record"
+    try_copy "$copy" chart=0 seed=3 events=1500 fault=VoteTwice > /dev/null
+    judge "the default leader ids, a planted fault" 1 "line $(wc -l < "$record"): " \
+        "the server has reached or passed the term already" "$record"
     rm -rf "$copy"
 }
 
