@@ -1,14 +1,27 @@
-import java.io.PrintStream;
-import java.util.Locale;
+package trace;
 
-final class Trace {
-    static PrintStream file; // set once at the start of the process, opened to append
+import java.io.FileOutputStream;
+import java.io.IOException;
+import java.io.OutputStream;
+import java.nio.charset.StandardCharsets;
 
-    /** Writes one line. The operating system has the line when the method returns. */
-    static synchronized void event(String format, Object... fields) {
-        file.printf(Locale.ROOT, format + "\n", fields);
-        if (file.checkError()) { // this also flushes
-            throw new IllegalStateException("a record that lacks a line says little");
+/** Writes the events of a process into a file. */
+public final class Trace {
+    private static OutputStream file;
+
+    private Trace() {}
+
+    /** Opens the file of the process, to append to it. It is called once, before the first event. */
+    public static synchronized void open(String path) throws IOException {
+        file = new FileOutputStream(path, true);
+    }
+
+    /** Writes a line of JSON. The operating system has the line when the method returns. */
+    public static synchronized void event(String line) {
+        try {
+            file.write((line + "\n").getBytes(StandardCharsets.UTF_8));
+        } catch (IOException e) {
+            throw new IllegalStateException("a record that lacks a line says little", e);
         }
     }
 }

@@ -1,21 +1,32 @@
+// Package trace writes the events of a process into a file.
 package trace
 
 import (
-	"fmt"
+	"encoding/json"
 	"os"
 	"sync"
 )
 
 var (
 	lock sync.Mutex
-	file *os.File // set once at the start of the process, opened with os.O_APPEND
+	file *os.File
 )
 
-// Event writes one line. The operating system has the line when Event returns.
-func Event(format string, fields ...any) {
+// Open opens the file of the process, to append to it. It is called once, before the first event.
+func Open(path string) (err error) {
+	file, err = os.OpenFile(path, os.O_APPEND|os.O_CREATE|os.O_WRONLY, 0o644)
+	return err
+}
+
+// Event writes the line of an event. The operating system has the line when Event returns.
+func Event(fields map[string]any) {
+	line, err := json.Marshal(fields)
+	if err != nil {
+		panic(err)
+	}
 	lock.Lock()
 	defer lock.Unlock()
-	if _, err := fmt.Fprintf(file, format+"\n", fields...); err != nil {
+	if _, err := file.Write(append(line, '\n')); err != nil {
 		panic(err) // a record that lacks a line says little
 	}
 }

@@ -1,16 +1,29 @@
+#pragma once
+
 #include <cstdio>
 #include <cstdlib>
 #include <mutex>
+#include <string>
 
-inline std::FILE* trace_file; // set once at the start of the process, opened with "a"
+namespace trace {
 
-// Writes one line, for example trace(R"({"event":"campaigned","server":%lu,"term":%lu})", id, term).
-// The operating system has the line when the function returns.
-template <class... Fields> void trace(const char* format, Fields... fields) {
+inline std::FILE* file;
+
+// Opens the file of the process, to append to it. It is called once, before the first event.
+inline bool open(const char* path) {
+    file = std::fopen(path, "ab");
+    return file != nullptr;
+}
+
+// Writes a line of JSON in UTF-8. The operating system has the line when the function returns.
+inline void event(std::string line) {
     static std::mutex lock;
     const std::lock_guard<std::mutex> guard(lock);
-    std::fprintf(trace_file, format, fields...);
-    if (std::fputc('\n', trace_file) == EOF || std::fflush(trace_file) == EOF) {
+    line += '\n';
+    std::fwrite(line.data(), 1, line.size(), file);
+    if (std::fflush(file) == EOF || std::ferror(file)) {
         std::abort(); // a record that lacks a line says little
     }
 }
+
+} // namespace trace
