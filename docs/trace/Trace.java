@@ -11,7 +11,7 @@ public final class Trace {
 
     private Trace() {}
 
-    /** Opens the file of the process, to append to it. It is called once, before the first event. */
+    /** Opens the file of the process, to append. It is called once, before the first event. */
     public static synchronized void open(String path) throws IOException {
         file = new FileOutputStream(path, true);
     }
