@@ -51,7 +51,12 @@ begin() { printf 'init 0 1 -\nupdate 1 5\n'; }
 trace() { timeout 60 crates/raft_trace/out/raft_trace "$@"; }
 trace_into_full_device() { trace "$@" > /dev/full; }
 trace_into_nothing() { trace "$@" >&-; }
-trace_usage() { trace "$@" | sed -n 1p; }
+trace_usage() { trace "$@" | grep '^Usage: '; }
+# How `raft_trace` says that a word is wrong: what is wrong, a tip, and the usage.
+trace_mistake() {
+    printf 'error: %s\n\n  tip: %s\n\nUsage: raft_trace %s\n\n' "$@"
+    printf "For more information, try '--help'."
+}
 start() { printf '{"event":"started","voters":[[1,2,3]]}\n'; }
 # Ten megabytes of a piece, over and over.
 ten_megabytes() { yes "$1" | tr -d '\n' | head -c 10000000; }
@@ -156,13 +161,18 @@ files() {
     folder=$(mktemp -d)
     said=$(cat crates/raft_trace/stdout)
     for word in --help -h; do
-        compare "$word of raft_trace" 0 "Usage: raft_trace [--chart] [FILE].." "" trace_usage "$word" < <(start)
+        compare "$word of raft_trace" 0 "Usage: raft_trace [OPTIONS] [FILE]..." "" trace_usage "$word" < <(start)
     done
-    compare "help after a file" 0 "Usage: raft_trace [--chart] [FILE].." "" trace_usage "$folder/none" --help
-    compare "an unknown option" 2 "" "raft_trace: \`-v\` is no option; --help prints the usage" \
-        trace -v < <(start)
+    compare "help after a file" 0 "Usage: raft_trace [OPTIONS] [FILE]..." "" trace_usage "$folder/none" --help
+    compare "an unknown option" 2 "" "$(trace_mistake "unexpected argument '-v' found" \
+        "to pass '-v' as a value, use '-- -v'" "[OPTIONS] [FILE]...")" trace -v < <(start)
+    compare "an option that is cut off" 2 "" "$(trace_mistake "unexpected argument '--char' found" \
+        "a similar argument exists: '--chart'" "--chart [FILE]...")" trace --char < <(start)
+    compare "help into a full device" 3 "" "raft_trace: No space left on device (os error 28)" trace_into_full_device --help
     compare "a missing file" 2 "" "raft_trace: $folder/none: No such file or directory (os error 2)" \
         trace - "$folder/none" < <(start)
+    compare "a file with the name of an option" 2 "" "raft_trace: --chart: No such file or directory (os error 2)" \
+        trace -- --chart < <(start)
     compare "an empty word" 2 "" "raft_trace: : No such file or directory (os error 2)" trace "" < <(start)
     compare "a directory" 3 "$folder: Is a directory (os error 21)" "" trace "$folder"
     compare "a directory after a start" 3 "$folder: Is a directory (os error 21)" "" trace - "$folder" < <(start)

@@ -20,37 +20,16 @@ mod start;
 mod tests;
 mod text;
 mod why;
+mod words;
 
 use crate::input::Lines;
 use crate::progress::Progress;
+use clap::ArgMatches;
 use std::alloc::AllocError;
 use std::fs::File;
 use std::io::{BufReader, Read, Stdin};
 use std::process::ExitCode;
 use std::{env, io};
-
-/// What the program is for, and how it is called.
-const USAGE: &str = "\
-Usage: raft_trace [--chart] [FILE]..
-
-Judges a recorded run of a Raft cluster. It reads one event a line, as JSON, from the files, or from
-standard input without any; - is standard input too. The events of a file are in their order, and no
-order between files is needed, so each process may write its own file. For example:
-
-    {\"event\":\"started\",\"voters\":[[1,2,3]],\"first\":1}
-    {\"event\":\"campaigned\",\"server\":1,\"term\":1}
-    {\"event\":\"granted\",\"server\":2,\"term\":1,\"candidate\":1}
-    {\"event\":\"wrote\",\"leader\":1,\"term\":1,\"index\":1,\"content\":7}
-    {\"event\":\"appended\",\"server\":2,\"term\":1,\"leader\":1,\"prev\":0,\"entries\":[[1,7]]}
-    {\"event\":\"acked\",\"server\":2,\"term\":1,\"leader\":1,\"index\":1}
-    {\"event\":\"committed\",\"leader\":1,\"term\":1,\"index\":1}
-    {\"event\":\"applied\",\"server\":2,\"index\":1}
-    {\"event\":\"restarted\",\"server\":2,\"index\":1}
-
-The status is 0 if the run is safe, 1 if the next event of every file breaks a rule, 2 at a line that
-is no event, and 3 if a file cannot be read, or if there is no memory. --chart draws the run before
-the answer. --help and -h print this text. TRACE.md describes the events.
-";
 
 /// Where lines come from.
 #[derive(Drop)]
@@ -86,44 +65,28 @@ fn main(rt: HostRuntime) -> ExitCode {
 
 /// Does what the command line asks for. Returns the exit status.
 fn run_words(rt: &HostRuntime) -> io::Result<u8> {
-    let words: Vec<String> = env::args(rt)?.skip(1).collect(rt.alloc())?;
-    match option_in(&words) {
-        None => judge_files(rt, words),
-        Some("--help" | "-h") => {
-            rt.print(USAGE)?;
-            Ok(0)
-        }
-        Some(option) => {
-            let _ = eprintln!(rt; "raft_trace: `{option}` is no option; --help prints the usage");
-            Ok(2)
+    let words: Vec<String> = env::args(rt)?.collect(rt.alloc())?;
+    match words::parsed(rt.alloc(), words.as_slice()) {
+        Ok(matches) => judge_files(rt, &matches),
+        Err(error) => {
+            error.print(rt)?;
+            Ok(words::status_of(&error))
         }
     }
 }
 
-/// Returns the first word that is an option, but not `--chart`. A hyphen alone is none.
-fn option_in(words: &[String]) -> Option<&str> {
-    for word in words {
-        let text = word.as_str();
-        if text != "-" && text != "--chart" && text.starts_with('-') {
-            return Some(text);
-        }
-    }
-    None
-}
-
-/// Judges the files that words name, or standard input if there is none. Returns the exit status.
-fn judge_files(rt: &HostRuntime, words: Vec<String>) -> io::Result<u8> {
+/// Judges the files that the command line names, or standard input if there is none. Returns the
+/// exit status.
+fn judge_files(rt: &HostRuntime, matches: &ArgMatches<'_>) -> io::Result<u8> {
     let mut lists = Vec::new(rt.alloc());
-    let mut is_drawn = false;
-    for word in words {
-        if word.as_str() == "--chart" {
-            is_drawn = true;
-            continue;
-        }
-        match source_of(rt, word.as_str()) {
-            Ok(source) => lists.push(lines_of(rt, source, Some(word))?)?,
+    for file in matches.get_strs(words::FILES).unwrap_or(&[]) {
+        match source_of(rt, file) {
+            Ok(source) => {
+                let name = String::from_str(rt.alloc(), file)?;
+                lists.push(lines_of(rt, source, Some(name))?)?;
+            }
             Err(error) => {
-                let _ = eprintln!(rt; "raft_trace: {}: {error}", word.as_str());
+                let _ = eprintln!(rt; "raft_trace: {file}: {error}");
                 return Ok(2);
             }
         }
@@ -131,7 +94,7 @@ fn judge_files(rt: &HostRuntime, words: Vec<String>) -> io::Result<u8> {
     if lists.is_empty() {
         lists.push(lines_of(rt, Source::Input(rt.stdin()), None)?)?;
     }
-    judge_lists(rt, &mut lists, is_drawn)
+    judge_lists(rt, &mut lists, matches.get_flag(words::CHART))
 }
 
 /// Opens the source that a word of the command line names.

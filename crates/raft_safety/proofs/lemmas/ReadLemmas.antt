@@ -43,7 +43,7 @@ use Rattle.raft_safety.specs.Trace.{
   same_leader,
 }
 use Rattle.raft_safety.specs.AppliedTrace.{hold_at_most_one}
-use Rattle.raft_safety.specs.Checker.{AreConfigLens, Keeps, entry_at, if_campaigned}
+use Rattle.raft_safety.specs.Checker.{AreConfigLens, Keeps, entry_at, if_campaigned, leader_entries_in}
 use Rattle.raft_safety.specs.Events.{log_after}
 use Rattle.raft_safety.specs.Inner.CheckerState.{ServerState, config_in, no_config_in}
 use Rattle.raft_safety.specs.Inner.Known.{at_most_one_in}
@@ -124,6 +124,28 @@ module _ {T ID D : Type 0} (k : Tests T ID D (Option D)) (exact : AreExact k) wh
       → Keeps k es p → entry_at n (log_at p.logs l.log) ≡ entry_at n (leader_log_in k es t c)
   leader_entry_read es t c p j n l at is keeps =
       ap (λ x. entry_at n x) (sym (sees_leader_at k exact es p t c j l at is keeps).leader_log)
+
+  -- so many first entries of a log, if it has so many
+  abbrev pub first_entries : ℕ → List (Entry T D) → Option (List (Entry T D))
+  first_entries n log = if nat_le n (length log) then Some (take n log) else None
+
+  pub leader_entries_read : (es : List (TraceEvent T ID D)) (t : T) (c : ID) (p : Parts T ID D) (j n : ℕ)
+      (l : Leader T ID)
+      → position (λ (l : Leader T ID). same_leader k l.term l.id t c) p.leaders ≡ Some j → l ≡ get_or p.leaders j l
+      → Keeps k es p → first_entries n (log_at p.logs l.log) ≡ leader_entries_in k es t c n
+  leader_entries_read es t c p j n l at is keeps =
+      let sees = sees_leader_at k exact es p t c j l at is keeps in
+      rw (sees.campaigned, sees.leader_log) refl
+
+  pub no_leader_entries : (es : List (TraceEvent T ID D)) (t : T) (c : ID) (p : Parts T ID D) (n : ℕ)
+      → position (λ (l : Leader T ID). same_leader k l.term l.id t c) p.leaders ≡ None → Keeps k es p
+      → None ≡ leader_entries_in k es t c n
+  no_leader_entries es t c p n absent keeps =
+      rw ((unled k exact es t c p absent keeps).1) (go (nat_le n (length (leader_log_in k es t c))))
+    where
+      go : (b : Bool) → let nothing : Option (List (Entry T D)) = None in nothing ≡ (if b then None else None)
+      go true = refl
+      go false = refl
 
   pub server_entry_read : (es : List (TraceEvent T ID D)) (id : ID) (p : Parts T ID D) (i n : ℕ) (s : Server ID)
       → position (λ (s : Server ID). k.same_id s.id id) p.servers ≡ Some i → s ≡ get_or p.servers i s

@@ -1,7 +1,7 @@
 //! What a checker has recorded of leaders.
-ghost use Rattle.std.specs.Prelude.{◌≡◌, ℕ, IfOk, IfSome, length, take, true};
+ghost use Rattle.std.specs.Prelude.{◌≡◌, IfOk, IfSome, length, option_map, take, true};
 ghost use Rattle.std.specs.List.{position};
-ghost use Rattle.raft_safety.specs.Checker.{AreConfigLens, OfAll, configs_of, entry_at, if_campaigned, counting_of, kept_by, tests_when};
+ghost use Rattle.raft_safety.specs.Checker.{AreConfigLens, OfAll, configs_of, entry_at, if_campaigned, counting_of, kept_by, leader_entries_in, tests_when};
 ghost use Rattle.raft_safety.specs.Inner.Logs.{log_at};
 ghost use Rattle.raft_safety.specs.Trace.{candidate_log_in, has_campaigned, leader_log_in, log_in};
 
@@ -27,8 +27,9 @@ impl<T: Term, N: Copy + Eq, D: Copy + Eq, C: Configs<N, D> + Drop> Checker<T, N,
         len: usize,
     ) -> Result<Option<Vec<Entry<T, D>>>, AllocError>
         ensures len { IfOk result (λ o. IfSome o (λ v. length v.items ≡ len)) }
-        ensures first { IfOk result (λ o. IfSome o (λ v.
-            (log : ℕ) × (v.items ≡ take len (log_at (kept_by self.now).logs log)))) }
+        ensures entries { let k = tests_when (counting_of self.now) T.Term N.PartialEq D.PartialEq
+            C.Configs (configs_of self.now) in OfAll k (kept_by self.now) (λ es. IfOk result
+            (λ o. option_map (λ v. v.items) o ≡ leader_entries_in k es term id len)) }
     {
         let log = match leader_at(&self.leaders, &self.places, term, id) {
             Some(j) => self.leaders[j].log,

@@ -1,7 +1,9 @@
-use Rattle.std.proofs.Common.{[], ◌∷◌, ◌++◌, length, take, ◌+◌, ◌<◌, ◌≡◌, ap, sym, ◌∙◌, arith}
+use Rattle.std.proofs.Common.{[], ◌∷◌, ◌++◌, length, take, ◌+◌, ◌<◌, ◌≡◌, ap, sym, ◌∙◌, arith, Some}
 use Rattle.std.proofs.lemmas.List.{length_push}
+use Rattle.raft_safety.specs.Checker.{kept_by}
 use Rattle.raft_safety.specs.Inner.Logs.{last_entry, log_at}
 use Rattle.raft_safety.proofs.lemmas.LogTreeLemmas.{take_last}
+use Rattle.raft_safety.proofs.lemmas.ReadLemmas.{leader_entries_read, no_leader_entries}
 use Rattle.raft_safety.proofs.checker.Checker.leader_entries.Goals as goal
 
 pub loop-i-preserved : goal.loop-i-preserved
@@ -16,14 +18,3 @@ loop-i-preserved g c =
           ∙ sym (take_last log c.loop-i.i c.in-Some-last.entry within
           (c.in-Some-last.ensures ∙ ap last_entry c.first.ensures.first));
     }
-
-pub returns-clause-len : goal.returns-clause-len
-returns-clause-len g c =
-    let all : c.loop-i.i ≡ c.args.len = omega arith in c.loop-i.invariant.counts ∙ all
-
-pub returns-clause-first : goal.returns-clause-first
-returns-clause-first g c =
-    let all : c.loop-i.i ≡ c.args.len = omega arith in (
-      c.index.result.now.log,
-      c.loop-i.invariant.first ∙ ap (λ n. take n (log_at c.args.self.now.logs c.index.result.now.log)) all,
-    )
