@@ -43,6 +43,7 @@ use Rattle.raft_safety.specs.Trace.{
   is_known_committed,
   has_campaigned,
   hold_no_config,
+  leader_log_in,
 }
 use Rattle.raft_safety.specs.AppliedTrace.{hold_at_most_one}
 use Rattle.raft_safety.specs.Counted.{are_all_allowed, first_broken, is_elected_when}
@@ -237,11 +238,12 @@ module _ {T ID D : Type 0} (k : Tests T ID D (Option D)) where
   abbrev pub if_campaigned : {X : Type 0} → List (TraceEvent T ID D) → T → ID → X → Option X
   if_campaigned es t c x = if has_campaigned k t c es then Some x else None
 
-  -- so many first entries of the candidate or leader of a term, if it has campaigned and has so many
-  abbrev pub leader_entries_in : List (TraceEvent T ID D) → T → ID → ℕ → Option (List (Entry T D))
-  leader_entries_in es t c n =
+  -- the entries after the first m, up to the first n, of the candidate or leader of a term, if it has
+  -- campaigned and has n entries
+  abbrev pub leader_entries_in : List (TraceEvent T ID D) → T → ID → ℕ → ℕ → Option (List (Entry T D))
+  leader_entries_in es t c m n =
       let log = leader_log_in k es t c in
-      if nat_le n (length log) then if_campaigned es t c (take n log) else None
+      if nat_le n (length log) then if_campaigned es t c (drop m (take n log)) else None
 
 module _ {T ID D : Type 0} (k : Tests T ID D (Option D)) where
   -- no config follows so many first entries exactly if they reach the first of these lengths, and at most

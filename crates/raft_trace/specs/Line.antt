@@ -1,5 +1,5 @@
 -- What a line says of an event.
-use Rattle.std.specs.Prelude.{◌≡◌, ◌⊎◌, ℕ, List, Some, None, codes, length}
+use Rattle.std.specs.Prelude.{◌≡◌, ◌⊎◌, ◌+◌, ℕ, List, Some, None, codes, length}
 use Rattle.serde_json.specs.Data.{Data}
 use Rattle.serde_json.specs.Find.{get}
 use Rattle.raft_safety.specs.Log.{Entry}
@@ -22,14 +22,21 @@ abbrev pub IsVote : TraceEvent ℕ ℕ ℕ → Type 0
 IsVote (Granted s t c) = Unit {0}
 IsVote e = ⊥
 
+-- a server takes entries of the leader of a term, and has so many then: those that it keeps, and those
+-- that are sent
+abbrev pub TakesUpTo : ℕ → ℕ → ℕ → ℕ → TraceEvent ℕ ℕ ℕ → Type 0
+TakesUpTo s t c len e =
+    (n : ℕ) × ((sent : List (Entry ℕ ℕ)) × (e ≡ Appended s t c n sent) × (n + length sent ≡ len))
+
 -- names have these numbers
 module _ (number_of : Numbering) where
   -- a line says which entries a server takes: it keeps those up to the index `prev`, and these come then. A
-  -- line without entries is of a snapshot, which has all entries up to its index
+  -- line without entries is of a snapshot, which has all entries up to its index: those that the server
+  -- keeps, and these
   abbrev pub SaysEntries : ℕ → Data → ℕ → List (Entry ℕ ℕ) → Type 0
   SaysEntries first d n sent =
       (IsLen (codes "prev") first n d × HasEntries number_of d sent)
-      ⊎ ((get (codes "entries") d ≡ None) × (n ≡ 0) × IsLen (codes "index") first (length sent) d)
+      ⊎ ((get (codes "entries") d ≡ None) × IsLen (codes "index") first (n + length sent) d)
 
   -- a line says an event, where the first entry has this index. It does not say which leader has
   -- committed what a server applies, nor what the entries of a snapshot are, and it need not say by which

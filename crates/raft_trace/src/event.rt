@@ -3,7 +3,7 @@ ghost use Rattle.std.specs.Prelude.{◌≡◌, ℕ, IfOk, IfSome, IsSome, None, 
 ghost use Rattle.raft_safety.specs.Checker.{event_of as trace_event};
 ghost use Rattle.serde_json.specs.Find.{get};
 ghost use Rattle.serde_json.specs.View.{view};
-ghost use Rattle.raft_trace.specs.Line.{IsTaken, Says};
+ghost use Rattle.raft_trace.specs.Line.{IsTaken, Says, TakesUpTo};
 ghost use Rattle.raft_trace.specs.Names.{numbering};
 
 use crate::field::{entries, event_name, id, is_named, len, number};
@@ -132,6 +132,31 @@ fn taken(names: &Names, value: &Value, name: &str, first: u64) -> Option<(u64, u
         id(names, value, "leader")?,
         len(value, name, first)?,
     ))
+}
+
+/// Returns the event that a server takes so many first entries of the leader of a term, if the
+/// leader has so many. The server keeps those that it has already, and only the others are sent.
+pub fn taken_from(
+    alloc: Global,
+    checker: &Checking,
+    server: u64,
+    term: u64,
+    leader: u64,
+    len: usize,
+) -> Result<Option<Act>, AllocError>
+    ensures { IfOk result (λ o. IfSome o (λ e. TakesUpTo server term leader len (trace_event e))) }
+{
+    let keep = checker.common_len(server, term, leader).min(len);
+    match checker.leader_entries(alloc, term, leader, keep, len)? {
+        Some(entries) => Ok(Some(Event::Appended {
+            server,
+            term,
+            leader,
+            keep,
+            entries,
+        })),
+        None => Ok(None),
+    }
 }
 
 /// Returns the event that a server acknowledges its entries up to an index.

@@ -5,7 +5,7 @@ ghost use Rattle.raft_trace.specs.Numbers.{number_tests};
 ghost use Rattle.raft_trace.specs.Run.{Fills, IsFilledIn};
 
 use crate::counted::counted_before;
-use crate::event::{Act, counted_at};
+use crate::event::{Act, counted_at, taken_from};
 use crate::field::{event_name, id, len, number};
 use crate::followed::{Followed, KEPT};
 use crate::judge::Judge;
@@ -209,17 +209,10 @@ impl Judge {
             Some(entry) if entry.term == last_term => {}
             _ => return Ok(false),
         }
-        let Some(entries) = self.checker.leader_entries(alloc, term, leader, len)? else {
-            return Ok(false);
-        };
-        let event = Event::Appended {
-            server,
-            term,
-            leader,
-            keep: 0,
-            entries,
-        };
-        self.add(&event)
+        match taken_from(alloc, &self.checker, server, term, leader, len)? {
+            Some(event) => self.add(&event),
+            None => Ok(false),
+        }
     }
 
     /// Records an event that no line says, if it is allowed. Returns whether it is.

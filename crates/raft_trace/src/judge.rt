@@ -11,7 +11,7 @@ ghost use Rattle.raft_trace.specs.Run.{IsBroken, IsStarted, Refuses, SaysMembers
 use crate::chart::Chart;
 use crate::counted::counted_otherwise;
 use crate::counts::Counts;
-use crate::event::{Act, Checking, event_of, installed};
+use crate::event::{Act, Checking, event_of, installed, taken_from};
 use crate::facts::{Facts, Place};
 use crate::fault::Fault;
 use crate::field::{configs, number, value_of};
@@ -160,14 +160,8 @@ impl Judge {
             )?;
             return event.ok_or(Fault::Malformed);
         };
-        match self.checker.leader_entries(alloc, term, leader, len)? {
-            Some(entries) => Ok(Event::Appended {
-                server,
-                term,
-                leader,
-                keep: 0,
-                entries,
-            }),
+        match taken_from(alloc, &self.checker, server, term, leader, len)? {
+            Some(event) => Ok(event),
             None => Err(Fault::from(Violation::Rule(Rule::NotWritten))),
         }
     }

@@ -4,6 +4,7 @@ use Rattle.std.specs.Prelude.{
   ◌<◌,
   ◌≤◌,
   ◌+◌,
+  ◌⊎◌,
   ℕ,
   Bool,
   true,
@@ -19,15 +20,17 @@ use Rattle.std.specs.Prelude.{
   take,
   drop,
   get_or,
+  max,
   not,
   nat_le,
   nat_lt,
   if◌then◌else◌,
 }
 use Rattle.std.specs.List.{position, position_or_len}
-use Rattle.std.proofs.Common.{refl, sym, ap, ◌∙◌, arith, zero, suc}
-use Rattle.std.proofs.lemmas.Bool.{lt-ltb}
-use Rattle.std.proofs.lemmas.List.{length-take-le, take_more}
+use Rattle.std.specs.Option.{option_or}
+use Rattle.std.proofs.Common.{refl, sym, ap, ◌∙◌, inl, inr, arith, zero, suc}
+use Rattle.std.proofs.lemmas.Bool.{cases_lt, le-leb, lt-leb, lt-ltb}
+use Rattle.std.proofs.lemmas.List.{drop-append-le, drop_all, length-take, length-take-le, take_more}
 use Rattle.std.proofs.Math.Seq.{take-length}
 use Rattle.raft_safety.specs.Log.{Entry}
 use Rattle.raft_safety.specs.Trace.{
@@ -35,25 +38,29 @@ use Rattle.raft_safety.specs.Trace.{
   Tests,
   TraceEvent,
   candidate_log_in,
+  common_prefix,
   events_in,
   has_campaigned,
   hold_no_config,
   leader_log_in,
   log_in,
+  same_entry,
   same_leader,
 }
 use Rattle.raft_safety.specs.AppliedTrace.{hold_at_most_one}
 use Rattle.raft_safety.specs.Checker.{AreConfigLens, Keeps, entry_at, if_campaigned, leader_entries_in}
 use Rattle.raft_safety.specs.Events.{log_after}
-use Rattle.raft_safety.specs.Inner.CheckerState.{ServerState, config_in, no_config_in}
+use Rattle.raft_safety.specs.Inner.CheckerState.{ServerState, common_len, config_in, no_config_in}
 use Rattle.raft_safety.specs.Inner.Known.{at_most_one_in}
 use Rattle.raft_safety.specs.Inner.Kept.{Parts, leader_in, leaders_in, server_in, servers_in}
 use Rattle.raft_safety.specs.Inner.Seen.{find_server}
-use Rattle.raft_safety.specs.Inner.Logs.{log_at}
+use Rattle.raft_safety.specs.Inner.Logs.{last_entry, log_at}
 use Rattle.raft_safety.specs.Memberships.{EndsWith}
 use Rattle.raft_safety.specs.declared.checker.leader.Leader.{Leader}
 use Rattle.raft_safety.specs.declared.checker.server.Server.{Server}
 use Rattle.raft_safety.proofs.lemmas.CheckedLeaderLemmas.{none_found}
+use Rattle.raft_safety.proofs.lemmas.CheckedLogLemmas.{common_length}
+use Rattle.raft_safety.proofs.lemmas.LogTreeLemmas.{take_last}
 use Rattle.raft_safety.proofs.lemmas.KnownElectionLemmas.{at_most_one_test, no_config_test}
 use Rattle.raft_safety.proofs.lemmas.CheckerLemmas.{leader_seen, no_leader_seen}
 use Rattle.raft_safety.proofs.lemmas.CheckerStepLemmas.{
@@ -98,6 +105,35 @@ not_absent p xs i x within is passes absent =
     lt-ltb (position_or_len p xs) (length xs) (omega arith) in
     let some : Some (position_or_len p xs) ≡ None = rw found at absent in cc
 
+-- the last entry of so many that come after the first m
+pub drop_last : {T D : Type 0} (log : List (Entry T D)) (m i : ℕ) (e : Entry T D) → m ≤ i → i < length log
+    → Some e ≡ last_entry (take (i + 1) log) → drop m (take (i + 1) log) ≡ drop m (take i log) ++ e ∷ []
+drop_last log m i e after within is =
+    ap (drop m) (take_last log i e within is)
+    ∙ drop-append-le m (take i log) (e ∷ []) (omega (arith, length-take-le i log (omega (arith, within)), after))
+
+-- all that is read after the first m, up to the first n
+pub read_to_end : {T D : Type 0} (log read : List (Entry T D)) (m n i : ℕ) → n ≤ i → i ≤ max m n
+    → read ≡ drop m (take i log) → read ≡ drop m (take n log)
+read_to_end log read m n i past before is = go (cases_lt m n)
+  where
+    nothing : (j : ℕ) → j ≤ m → drop m (take j log) ≡ []
+    nothing j le = drop_all m (take j log) (omega (arith, length-take j log, le))
+
+    go : (m < n) ⊎ (n ≤ m) → read ≡ drop m (take n log)
+    go (inl h) =
+        let same : i ≡ n = omega (arith, past, before, h) in is ∙ ap (λ j. drop m (take j log)) same
+    go (inr h) = is ∙ nothing i (omega (arith, before, h)) ∙ sym (nothing n h)
+
+-- entries have a last one
+pub not_without_last : {T D : Type 0} (log : List (Entry T D)) → 0 < length log → None ≡ last_entry log → ⊥
+not_without_last [] some none = absurd (omega arith)
+not_without_last {T} {D} (e ∷ log) some none = go (last_entry log) none
+  where
+    go : (o : Option (Entry T D)) → None ≡ option_or o (Some e) → ⊥
+    go None h = cc
+    go (Some x) h = cc
+
 module _ {T ID D : Type 0} (k : Tests T ID D (Option D)) (exact : AreExact k) where
   pub no_leader_read : {X : Type 0} (es : List (TraceEvent T ID D)) (t : T) (c : ID) (p : Parts T ID D) (x : X)
       → position (λ (l : Leader T ID). same_leader k l.term l.id t c) p.leaders ≡ None → Keeps k es p
@@ -125,33 +161,71 @@ module _ {T ID D : Type 0} (k : Tests T ID D (Option D)) (exact : AreExact k) wh
   leader_entry_read es t c p j n l at is keeps =
       ap (λ x. entry_at n x) (sym (sees_leader_at k exact es p t c j l at is keeps).leader_log)
 
-  -- so many first entries of a log, if it has so many
-  abbrev pub first_entries : ℕ → List (Entry T D) → Option (List (Entry T D))
-  first_entries n log = if nat_le n (length log) then Some (take n log) else None
+  pub leader_entries_read : (es : List (TraceEvent T ID D)) (t : T) (c : ID) (p : Parts T ID D) (j m n : ℕ)
+      (l : Leader T ID) (read : List (Entry T D))
+      → position (λ (l : Leader T ID). same_leader k l.term l.id t c) p.leaders ≡ Some j → l ≡ get_or p.leaders j l
+      → Keeps k es p → n ≤ length (log_at p.logs l.log) → read ≡ drop m (take n (log_at p.logs l.log))
+      → Some read ≡ leader_entries_in k es t c m n
+  leader_entries_read es t c p j m n l read at is keeps within are =
+      let sees = sees_leader_at k exact es p t c j l at is keeps in
+      rw (sees.campaigned, sees.leader_log, le-leb n (length (log_at p.logs l.log)) within) (ap Some are)
 
-  pub leader_entries_read : (es : List (TraceEvent T ID D)) (t : T) (c : ID) (p : Parts T ID D) (j n : ℕ)
+  pub leader_entries_short : (es : List (TraceEvent T ID D)) (t : T) (c : ID) (p : Parts T ID D) (j m n : ℕ)
       (l : Leader T ID)
       → position (λ (l : Leader T ID). same_leader k l.term l.id t c) p.leaders ≡ Some j → l ≡ get_or p.leaders j l
-      → Keeps k es p → first_entries n (log_at p.logs l.log) ≡ leader_entries_in k es t c n
-  leader_entries_read es t c p j n l at is keeps =
+      → Keeps k es p → length (log_at p.logs l.log) < n → None ≡ leader_entries_in k es t c m n
+  leader_entries_short es t c p j m n l at is keeps short =
       let sees = sees_leader_at k exact es p t c j l at is keeps in
-      rw (sees.campaigned, sees.leader_log) refl
+      rw (sees.leader_log, lt-leb n (length (log_at p.logs l.log)) short) refl
 
-  pub no_leader_entries : (es : List (TraceEvent T ID D)) (t : T) (c : ID) (p : Parts T ID D) (n : ℕ)
+  pub no_leader_entries : (es : List (TraceEvent T ID D)) (t : T) (c : ID) (p : Parts T ID D) (m n : ℕ)
       → position (λ (l : Leader T ID). same_leader k l.term l.id t c) p.leaders ≡ None → Keeps k es p
-      → None ≡ leader_entries_in k es t c n
-  no_leader_entries es t c p n absent keeps =
+      → None ≡ leader_entries_in k es t c m n
+  no_leader_entries es t c p m n absent keeps =
       rw ((unled k exact es t c p absent keeps).1) (go (nat_le n (length (leader_log_in k es t c))))
     where
       go : (b : Bool) → let nothing : Option (List (Entry T D)) = None in nothing ≡ (if b then None else None)
       go true = refl
       go false = refl
 
+  -- the logs of a server and of a leader begin with so many equal entries
+  pub common_read : (es : List (TraceEvent T ID D)) (id : ID) (t : T) (c : ID) (p : Parts T ID D) (i j n : ℕ) (s : Server ID)
+      (l : Leader T ID)
+      → position (λ (s : Server ID). k.same_id s.id id) p.servers ≡ Some i → s ≡ get_or p.servers i s
+      → position (λ (l : Leader T ID). same_leader k l.term l.id t c) p.leaders ≡ Some j → l ≡ get_or p.leaders j l
+      → Keeps k es p → n ≡ common_len (same_entry k) (log_at p.logs s.log) (log_at p.logs l.log)
+      → n ≡ length (common_prefix k (log_in k es id) (leader_log_in k es t c))
+  common_read es id t c p i j n s l at_s is_s at_l is_l keeps common =
+      let own : log_in k es id ≡ log_at p.logs s.log = (sees_server_at k exact es p id i s at_s is_s keeps).log in
+      let led : leader_log_in k es t c ≡ log_at p.logs l.log =
+      (sees_leader_at k exact es p t c j l at_l is_l keeps).leader_log in
+      common ∙ sym (common_length k exact (log_at p.logs s.log) (log_at p.logs l.log))
+      ∙ (λ q. length (common_prefix k (sym own q) (sym led q)))
+
+  common_with_nil : (log : List (Entry T D)) → 0 ≡ length (common_prefix k log [])
+  common_with_nil [] = refl
+  common_with_nil (e ∷ log) = refl
+
+  pub no_leader_common : (es : List (TraceEvent T ID D)) (id : ID) (t : T) (c : ID) (p : Parts T ID D)
+      → position (λ (l : Leader T ID). same_leader k l.term l.id t c) p.leaders ≡ None → Keeps k es p
+      → 0 ≡ length (common_prefix k (log_in k es id) (leader_log_in k es t c))
+  no_leader_common es id t c p absent keeps =
+      common_with_nil (log_in k es id)
+      ∙ ap (λ x. length (common_prefix k (log_in k es id) x))
+      (sym (no_leader_seen k exact es (leaders_in p) t c keeps.seen.see_leaders
+      (leader_place_in k exact p t c None absent)).leader_log)
+
   pub server_entry_read : (es : List (TraceEvent T ID D)) (id : ID) (p : Parts T ID D) (i n : ℕ) (s : Server ID)
       → position (λ (s : Server ID). k.same_id s.id id) p.servers ≡ Some i → s ≡ get_or p.servers i s
       → Keeps k es p → entry_at n (log_at p.logs s.log) ≡ entry_at n (log_in k es id)
   server_entry_read es id p i n s at is keeps =
       ap (λ x. entry_at n x) (sym (sees_server_at k exact es p id i s at is keeps).log)
+
+  pub server_len_read : (es : List (TraceEvent T ID D)) (id : ID) (p : Parts T ID D) (i n : ℕ) (s : Server ID)
+      → position (λ (s : Server ID). k.same_id s.id id) p.servers ≡ Some i → s ≡ get_or p.servers i s
+      → n ≡ length (log_at p.logs s.log) → Keeps k es p → n ≡ length (log_in k es id)
+  server_len_read es id p i n s at is len keeps =
+      len ∙ ap (λ x. length x) (sym (sees_server_at k exact es p id i s at is keeps).log)
 
   -- what is kept of a leader that has not campaigned, or of a server that has no events
   nothing_at : (n : ℕ) → None ≡ entry_at {T = T} {D = D} n []
@@ -170,15 +244,30 @@ module _ {T ID D : Type 0} (k : Tests T ID D (Option D)) (exact : AreExact k) wh
       ∙ ap (λ x. entry_at n x) (sym (no_leader_seen k exact es (leaders_in p) t c keeps.seen.see_leaders
       (leader_place_in k exact p t c None absent)).leader_log)
 
-  pub no_server_log : (es : List (TraceEvent T ID D)) (id : ID) (p : Parts T ID D) (n : ℕ)
-      → position (λ (s : Server ID). k.same_id s.id id) p.servers ≡ None → Keeps k es p
-      → None ≡ entry_at n (log_in k es id)
-  no_server_log es id p n absent keeps =
+  no_server_nil : (es : List (TraceEvent T ID D)) (id : ID) (p : Parts T ID D)
+      → position (λ (s : Server ID). k.same_id s.id id) p.servers ≡ None → Keeps k es p → log_in k es id ≡ []
+  no_server_nil es id p absent keeps =
       let none : find_server k (servers_in p) id ≡ None =
       none_found (λ (s : ServerState T ID D). k.same_id s.id id) (servers_in p)
       (place_map (server_in p.logs) (λ (x : ServerState T ID D). k.same_id x.id id) p.servers ∙ absent) in
       let no_events : events_in k es id ≡ [] = rw none at (keeps.seen.see_servers id) in
-      nothing_at n ∙ ap (λ x. entry_at n (log_after x)) (sym no_events)
+      ap log_after no_events
+
+  pub no_server_len : (es : List (TraceEvent T ID D)) (id : ID) (p : Parts T ID D)
+      → position (λ (s : Server ID). k.same_id s.id id) p.servers ≡ None → Keeps k es p → 0 ≡ length (log_in k es id)
+  no_server_len es id p absent keeps = ap (λ x. length x) (sym (no_server_nil es id p absent keeps))
+
+  pub no_server_log : (es : List (TraceEvent T ID D)) (id : ID) (p : Parts T ID D) (n : ℕ)
+      → position (λ (s : Server ID). k.same_id s.id id) p.servers ≡ None → Keeps k es p
+      → None ≡ entry_at n (log_in k es id)
+  no_server_log es id p n absent keeps =
+      nothing_at n ∙ ap (λ x. entry_at n x) (sym (no_server_nil es id p absent keeps))
+
+  pub no_server_common : (es : List (TraceEvent T ID D)) (id : ID) (t : T) (c : ID) (p : Parts T ID D)
+      → position (λ (s : Server ID). k.same_id s.id id) p.servers ≡ None → Keeps k es p
+      → 0 ≡ length (common_prefix k (log_in k es id) (leader_log_in k es t c))
+  no_server_common es id t c p absent keeps =
+      ap (λ x. length (common_prefix k x (leader_log_in k es t c))) (sym (no_server_nil es id p absent keeps))
 
   -- each leader that is kept has campaigned
   pub is_campaigned : (es : List (TraceEvent T ID D)) (p : Parts T ID D) (i : ℕ) (l : Leader T ID) → i < length p.leaders

@@ -1,9 +1,9 @@
 //! What a checker has recorded of leaders.
-ghost use Rattle.std.specs.Prelude.{◌≡◌, IfOk, IfSome, length, option_map, take, true};
+ghost use Rattle.std.specs.Prelude.{◌≡◌, ◌-◌, IfOk, IfSome, length, option_map, take, true};
 ghost use Rattle.std.specs.List.{position};
 ghost use Rattle.raft_safety.specs.Checker.{AreConfigLens, OfAll, configs_of, entry_at, if_campaigned, counting_of, kept_by, leader_entries_in, tests_when};
 ghost use Rattle.raft_safety.specs.Inner.Logs.{log_at};
-ghost use Rattle.raft_safety.specs.Trace.{candidate_log_in, has_campaigned, leader_log_in, log_in};
+ghost use Rattle.raft_safety.specs.Trace.{candidate_log_in, has_campaigned, common_prefix, leader_log_in, log_in};
 
 use super::Checker;
 use super::configs::Configs;
@@ -17,19 +17,21 @@ use crate::term::Term;
 use std::alloc::{AllocError, Global};
 
 impl<T: Term, N: Copy + Eq, D: Copy + Eq, C: Configs<N, D> + Drop> Checker<T, N, D, C> {
-    /// Returns the first entries of the log of a candidate or leader of a term, so many of them, if
-    /// it has so many. A server that installs a snapshot takes these entries.
+    /// Returns the entries after the first `from` of the log of a candidate or leader of a term, up
+    /// to the first `len`, if it has campaigned and has so many. A server that installs a snapshot
+    /// takes these entries, if it has the first `from` already.
     pub fn leader_entries(
         &self,
         alloc: Global,
         term: T,
         id: N,
+        from: usize,
         len: usize,
     ) -> Result<Option<Vec<Entry<T, D>>>, AllocError>
-        ensures len { IfOk result (λ o. IfSome o (λ v. length v.items ≡ len)) }
+        ensures len { IfOk result (λ o. IfSome o (λ v. length v.items ≡ len - from)) }
         ensures entries { let k = tests_when (counting_of self.now) T.Term N.PartialEq D.PartialEq
             C.Configs (configs_of self.now) in OfAll k (kept_by self.now) (λ es. IfOk result
-            (λ o. option_map (λ v. v.items) o ≡ leader_entries_in k es term id len)) }
+            (λ o. option_map (λ v. v.items) o ≡ leader_entries_in k es term id from len)) }
     {
         let log = match leader_at(&self.leaders, &self.places, term, id) {
             Some(j) => self.leaders[j].log,
@@ -39,13 +41,32 @@ impl<T: Term, N: Copy + Eq, D: Copy + Eq, C: Configs<N, D> + Drop> Checker<T, N,
             return Ok(None);
         }
         let mut entries = Vec::new(alloc);
-        for i in 0..len {
+        for i in from..len {
             match self.logs.last(self.logs.first(log, i + 1)) {
                 Some(entry) => entries.push(entry)?,
                 None => return Ok(None),
             }
         }
         Ok(Some(entries))
+    }
+
+    /// Returns how many first entries the log of a server has in common with the log of a candidate
+    /// or leader of a term.
+    pub fn common_len(&self, server: N, term: T, leader: N) -> usize
+        ensures { let k = tests_when (counting_of self.now) T.Term N.PartialEq D.PartialEq C.Configs
+            (configs_of self.now) in OfAll k (kept_by self.now) (λ es. result
+            ≡ length (common_prefix k (log_in k es server) (leader_log_in k es term leader))) }
+    {
+        let i = match place_of(&self.servers, server) {
+            Some(i) => i,
+            None => return 0,
+        };
+        let j = match leader_at(&self.leaders, &self.places, term, leader) {
+            Some(j) => j,
+            None => return 0,
+        };
+        self.logs
+            .common_len(self.servers[i].log, self.leaders[j].log)
     }
 
     /// Returns the configs.
@@ -115,6 +136,17 @@ impl<T: Term, N: Copy + Eq, D: Copy + Eq, C: Configs<N, D> + Drop> Checker<T, N,
         match leader_at(&self.leaders, &self.places, term, id) {
             Some(j) => entry_at(&self.logs, self.leaders[j].log, len),
             None => None,
+        }
+    }
+
+    /// Returns how many entries the log of a server has.
+    pub fn server_len(&self, id: N) -> usize
+        ensures { let k = tests_when (counting_of self.now) T.Term N.PartialEq D.PartialEq C.Configs (configs_of self.now) in
+            OfAll k (kept_by self.now) (λ es. result ≡ length (log_in k es id)) }
+    {
+        match place_of(&self.servers, id) {
+            Some(i) => self.logs.len(self.servers[i].log),
+            None => 0,
         }
     }
 

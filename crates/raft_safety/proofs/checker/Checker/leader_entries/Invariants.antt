@@ -1,9 +1,11 @@
-use Rattle.std.proofs.Common.{◌≡◌, length, take}
+use Rattle.std.proofs.Common.{◌≡◌, ◌≤◌, ◌-◌, length, drop, max, take}
 use Rattle.raft_safety.specs.Inner.Logs.{log_at}
 use Rattle.raft_safety.proofs.checker.Checker.leader_entries.Given as goal
 
 abbrev pub invariant-loop-i : goal.invariant-loop-i
 invariant-loop-i g l = record {
-  counts : length l.entries.items ≡ l.i;
-  first : l.entries.items ≡ take l.i (log_at l.self.logs l.log);
+  after : l.from ≤ l.i;
+  before : l.i ≤ max l.from l.len;
+  counts : length l.entries.items ≡ l.i - l.from;
+  read : l.entries.items ≡ drop l.from (take l.i (log_at l.self.logs l.log));
 }
