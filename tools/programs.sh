@@ -147,8 +147,12 @@ records() {
         < <(start; yes '' | head -n 100000)
     compare "an index of 2^63" 1 "line 2: server 1 restarts with index 9223372036854775808: the server does not have so many entries" \
         "" trace < <(start; printf '{"event":"restarted","server":1,"index":9223372036854775808}')
-    compare "the greatest index" 2 "line 2: \`restarted\` needs the text or number \`server\`, and the number \`index\`" "" trace \
+    compare "the greatest index" 2 "line 2: \`restarted\` needs the text or number \`server\`, the number \`index\`, and a number\
+ \`last_term\` or none; \`index\` is \`first - 1\` or more" "" trace \
         < <(start; printf '{"event":"restarted","server":1,"index":18446744073709551615}')
+    compare "a long name" 1 \
+        "line 2: server \"$(printf 'a%.0s' {1..80})\".. campaigns in term 0: the server has reached or passed the term already" \
+        "" trace < <(start; printf '{"event":"campaigned","term":0,"server":"'; ten_megabytes a; printf '"}\n')
     compare "a record that cannot be read" 3 "standard input: Is a directory (os error 21)" "" trace < /
     compare "an answer that cannot be written" 3 "" "raft_trace: No space left on device (os error 28)" \
         trace_into_full_device < <(start)

@@ -115,7 +115,7 @@ SaysToo d e other =
 -- a line is broken: it is no event, it has not the next index of its leader, or it breaks a rule
 abbrev pub IsBroken : Fault → Type 0
 IsBroken Malformed = Unit {0}
-IsBroken (Skips next) = Unit {0}
+IsBroken (Skips last) = Unit {0}
 IsBroken (Refused (BreaksRule rule)) = Unit {0}
 IsBroken fault = ⊥
 

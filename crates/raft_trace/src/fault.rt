@@ -12,7 +12,7 @@ use std::alloc::AllocError;
 pub enum Fault {
     /// It is no event.
     Malformed,
-    /// It has not the next index of its leader, which is this one.
+    /// It has not the index after that of the last entry of its leader, which is this one.
     Skips(u64),
     /// It breaks a rule, or there is no memory for it.
     Refused(Violation),

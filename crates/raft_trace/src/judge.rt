@@ -180,11 +180,10 @@ impl Judge {
         let Some(len) = self.checker.leader_len(*term, *leader) else {
             return Ok(());
         };
-        let next = self.first.saturating_add(len as u64);
-        if index == next {
+        if self.first.checked_add(len as u64) == Some(index) {
             Ok(())
         } else {
-            Err(Fault::Skips(next))
+            Err(Fault::Skips(self.index(len)))
         }
     }
 
@@ -194,8 +193,11 @@ impl Judge {
         let Event::Restarted { server, len } = event else {
             return Ok(());
         };
-        let Some(last_term) = number(value, "last_term") else {
+        if value.get("last_term").is_none() {
             return Ok(());
+        }
+        let Some(last_term) = number(value, "last_term") else {
+            return Err(Fault::Malformed);
         };
         match self.checker.server_entry(*server, *len) {
             Some(entry) if entry.term != last_term => {
@@ -293,9 +295,13 @@ impl Judge {
         }
     }
 
-    /// Returns the index of the last of so many first entries.
+    /// Returns the index of the last of so many first entries, the one before the first index if
+    /// there are none.
     pub fn index(&self, len: usize) -> u64 {
-        self.first.saturating_add(len as u64).saturating_sub(1)
+        match len.checked_sub(1) {
+            Some(before) => self.first.saturating_add(before as u64),
+            None => self.first.saturating_sub(1),
+        }
     }
 }
 

@@ -16,6 +16,9 @@ const FIELDS: [&str; 4] = ["server", "leader", "candidate", "content"];
 /// The fields of an event that are lists of lists, which have names.
 const LISTS: [&str; 2] = ["entries", "voters"];
 
+/// How many bytes of a name an answer has at most.
+const SHOWN: usize = 80;
+
 /// The names that have occurred, numbers or texts, and the numbers that stand for them.
 #[derive(Drop)]
 pub struct Names {
@@ -67,9 +70,7 @@ impl Names {
     pub fn push(&self, answer: &mut String, number: u64) -> Result<(), AllocError> {
         for (text, stand) in &self.texts {
             if *stand == number {
-                let text = Value::String(String::from_str(self.alloc, text.as_str())?);
-                write!(answer, "{text}")?;
-                return Ok(());
+                return push_text(self.alloc, answer, text.as_str());
             }
         }
         write!(answer, "{}", self.large_name(number))?;
@@ -166,4 +167,15 @@ impl Names {
         self.next = next;
         Ok(())
     }
+}
+
+/// Writes a text as JSON has it. If it is long, two dots stand for its end.
+pub fn push_text(alloc: Global, answer: &mut String, text: &str) -> Result<(), AllocError> {
+    let end = text.floor_char_boundary(SHOWN);
+    let shown = Value::String(String::from_str(alloc, &text[..end])?);
+    write!(answer, "{shown}")?;
+    if end < text.len() {
+        answer.push_str("..")?;
+    }
+    Ok(())
 }

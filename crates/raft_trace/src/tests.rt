@@ -1,6 +1,7 @@
 //! Answers to recorded runs.
 
 mod applied;
+mod bounds;
 mod chart;
 mod fills;
 mod names;
@@ -69,7 +70,8 @@ const ROWS: [(&str, u8, &str); 18] = [
     (
         r#"{"event":"restarted","server":1,"index":0}"#,
         2,
-        "line 9: `restarted` needs the text or number `server`, and the number `index`\n",
+        "line 9: `restarted` needs the text or number `server`, the number `index`, and a number \
+            `last_term` or none; `index` is `first - 1` or more\n",
     ),
     (
         r#"{"event":"applied","server":1,"index":2}"#,
@@ -89,7 +91,7 @@ const ROWS: [(&str, u8, &str); 18] = [
         r#"{"event":"acked","server":[2],"term":1,"leader":1,"index":2}"#,
         2,
         "line 9: `acked` needs the texts or numbers `server` and `leader`, and the numbers `term` \
-            and `index`\n",
+            and `index`; `index` is `first - 1` or more\n",
     ),
     (
         r#"{"event":"wrote","leader":1,"term":1,"index":3,"content":8,"voters":[[1,2]]}"#,

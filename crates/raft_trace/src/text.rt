@@ -4,6 +4,7 @@ ghost use Rattle.std.specs.Prelude.{◌<◌, IfOk};
 use crate::fault::Fault;
 use crate::field::{event_name, number, value_of};
 use crate::judge::Judge;
+use crate::names::push_text;
 use raft_safety::checker::Violation;
 use serde_json::Value;
 use std::alloc::{AllocError, Global};
@@ -85,45 +86,65 @@ pub fn push_fault(
 ) -> Result<u8, AllocError>
     ensures { IfOk result (λ status. 0 < status) }
 {
-    let value = value_of(alloc, line)?.unwrap_or(Value::Null);
     match fault {
-        Fault::Malformed => {
-            writeln!(answer, "{}", reason(is_first, &value))?;
-            Ok(2)
-        }
-        Fault::Skips(next) => {
-            push_skip(answer, &value, next)?;
-            Ok(1)
-        }
+        // There may be no memory to read the line again.
         Fault::Refused(Violation::OutOfMemory) => {
             writeln!(answer, "out of memory")?;
             Ok(3)
         }
+        Fault::Malformed => {
+            let value = value_or_null(alloc, line)?;
+            writeln!(answer, "{}", reason(is_first, &value))?;
+            Ok(2)
+        }
+        Fault::Skips(last) => {
+            push_skip(alloc, answer, &value_or_null(alloc, line)?, last)?;
+            Ok(1)
+        }
         Fault::Refused(Violation::Rule(rule)) => {
-            push_event(answer, &value)?;
+            push_event(alloc, answer, &value_or_null(alloc, line)?)?;
             writeln!(answer, ": {rule}")?;
             Ok(1)
         }
     }
 }
 
-/// Writes that an entry has not the next index of its leader.
-fn push_skip(answer: &mut String, value: &Value, next: u64) -> Result<(), AllocError> {
-    let missing = Value::Null;
-    let leader = value.get("leader").unwrap_or(&missing);
-    let term = value.get("term").unwrap_or(&missing);
+/// Returns the value of a line, null if the line is no JSON.
+fn value_or_null(alloc: Global, line: &[u8]) -> Result<Value, AllocError> {
+    Ok(value_of(alloc, line)?.unwrap_or(Value::Null))
+}
+
+/// Writes that an entry has not the index after that of the last entry of its leader.
+fn push_skip(
+    alloc: Global,
+    answer: &mut String,
+    value: &Value,
+    last: u64,
+) -> Result<(), AllocError> {
+    let leader = shown(alloc, value, "leader")?;
+    let term = shown(alloc, value, "term")?;
     let index = number(value, "index").unwrap_or(0);
-    let reason = if next < index {
+    let reason = if last < index {
         "so a line is missing"
     } else {
         "so the leader has it already"
     };
     writeln!(
         answer,
-        "leader {leader} writes index {index} in term {term}: its last entry has index {}, {reason}",
-        next.saturating_sub(1)
+        "leader {leader} writes index {index} in term {term}: its last entry has index {last}, {reason}"
     )?;
     Ok(())
+}
+
+/// Returns a field as JSON has it. If it is a long text, two dots stand for its end.
+fn shown(alloc: Global, value: &Value, name: &str) -> Result<String, AllocError> {
+    let mut text = String::new(alloc);
+    let field = value.get(name).unwrap_or(&Value::Null);
+    match field.as_str() {
+        Some(long) => push_text(alloc, &mut text, long)?,
+        None => write!(text, "{field}")?,
+    }
+    Ok(text)
 }
 
 /// Returns why the value of a line is no event.
@@ -141,46 +162,53 @@ fn reason(is_first: bool, value: &Value) -> &'static str {
             "`granted` needs the texts or numbers `server` and `candidate`, and the number `term`"
         }
         "appended" => {
-            "`appended` needs the texts or numbers `server` and `leader`, the number `term`, and the number `prev` and the pairs `entries`, or the number `index`"
+            "`appended` needs the texts or numbers `server` and `leader`, the number `term`, and the number `prev` and the pairs `entries`, or the number `index`; `prev` and `index` are `first - 1` or more"
         }
         "acked" => {
-            "`acked` needs the texts or numbers `server` and `leader`, and the numbers `term` and `index`"
+            "`acked` needs the texts or numbers `server` and `leader`, and the numbers `term` and `index`; `index` is `first - 1` or more"
         }
-        "restarted" => "`restarted` needs the text or number `server`, and the number `index`",
+        "restarted" => {
+            "`restarted` needs the text or number `server`, the number `index`, and a number `last_term` or none; `index` is `first - 1` or more"
+        }
         "wrote" => {
             "`wrote` needs the texts or numbers `leader` and `content`, the number `term`, a number `index` or none, and lists of texts or numbers `voters` or none; a content has one list of voters"
         }
         "committed" => {
-            "`committed` needs the text or number `leader`, the numbers `term` and `index`, and a number `counted_at` or none"
+            "`committed` needs the text or number `leader`, the numbers `term` and `index`, and a number `counted_at` or none; `index` and `counted_at` are `first - 1` or more"
         }
-        "applied" => "`applied` needs the text or number `server`, and the number `index`",
+        "applied" => {
+            "`applied` needs the text or number `server`, and the number `index`; `index` is `first - 1` or more"
+        }
         _ => "there is no event of this name",
     }
 }
 
 /// Writes what an event says, with names as JSON has them.
-fn push_event(answer: &mut String, value: &Value) -> Result<(), AllocError> {
-    let missing = Value::Null;
-    let server = value.get("server").unwrap_or(&missing);
-    let leader = value.get("leader").unwrap_or(&missing);
-    let term = value.get("term").unwrap_or(&missing);
-    let index = value.get("index").unwrap_or(&missing);
+fn push_event(alloc: Global, answer: &mut String, value: &Value) -> Result<(), AllocError> {
+    let server = shown(alloc, value, "server")?;
+    let leader = shown(alloc, value, "leader")?;
+    let term = shown(alloc, value, "term")?;
+    let index = shown(alloc, value, "index")?;
     match event_name(value).unwrap_or("") {
         "campaigned" => write!(answer, "server {server} campaigns in term {term}")?,
-        "granted" => write!(
-            answer,
-            "server {server} votes in term {term} for {}",
-            value.get("candidate").unwrap_or(&missing)
-        )?,
+        "granted" => {
+            let candidate = shown(alloc, value, "candidate")?;
+            write!(
+                answer,
+                "server {server} votes in term {term} for {candidate}"
+            )?;
+        }
         "appended" if value.get("entries").is_none() => write!(
             answer,
             "server {server} installs a snapshot up to index {index} of {leader} in term {term}"
         )?,
-        "appended" => write!(
-            answer,
-            "server {server} takes entries after index {} from {leader} in term {term}",
-            value.get("prev").unwrap_or(&missing)
-        )?,
+        "appended" => {
+            let prev = shown(alloc, value, "prev")?;
+            write!(
+                answer,
+                "server {server} takes entries after index {prev} from {leader} in term {term}"
+            )?;
+        }
         "acked" => write!(
             answer,
             "server {server} acknowledges index {index} to {leader} in term {term}"
