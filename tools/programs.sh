@@ -51,6 +51,8 @@ begin() { printf 'init 0 1 -\nupdate 1 5\n'; }
 trace() { timeout 60 crates/raft_trace/out/raft_trace "$@"; }
 trace_into_full_device() { trace "$@" > /dev/full; }
 trace_into_nothing() { trace "$@" >&-; }
+# Has so many kilobytes of memory, and 15 seconds of a processor: with more work than the lines say it takes longer.
+trace_within() { (ulimit -v "$1" -t 15; shift; trace "$@"); }
 trace_usage() { trace "$@" | grep '^Usage: '; }
 # How `raft_trace` says that a word is wrong: what is wrong, a tip, and the usage.
 trace_mistake() {
@@ -60,6 +62,12 @@ trace_mistake() {
 start() { printf '{"event":"started","voters":[[1,2,3]]}\n'; }
 # Ten megabytes of a piece, over and over.
 ten_megabytes() { yes "$1" | tr -d '\n' | head -c 10000000; }
+# A snapshot is installed over and over, each time with a row of the chart.
+many_snapshots() {
+    printf '{"event":"started","voters":[[1]]}\n{"event":"campaigned","server":1,"term":1}\n'
+    printf '{"event":"wrote","leader":1,"term":1,"content":7}\n'
+    yes '{"event":"appended","server":2,"term":1,"leader":1,"index":1}' | head -n 100000
+}
 # Forty bytes of a long word, as a reason shows them: a piece, over and over. The piece `\x00` is one byte.
 cut_word() {
     local piece=$1 shown="" bytes=${#1}
@@ -153,6 +161,9 @@ records() {
     compare "a long name" 1 \
         "line 2: server \"$(printf 'a%.0s' {1..80})\".. campaigns in term 0: the server has reached or passed the term already" \
         "" trace < <(start; printf '{"event":"campaigned","term":0,"server":"'; ten_megabytes a; printf '"}\n')
+    compare "a long line without memory" 3 "line 2: out of memory" "" trace_within 28000 \
+        < <(start; printf '{"x":"'; ten_megabytes a; printf '","event":"campaigned","server":1,"term":1}\n')
+    compare "a chart without memory" 3 "" "raft_trace: out of memory" trace_within 14000 --chart < <(many_snapshots)
     compare "a record that cannot be read" 3 "standard input: Is a directory (os error 21)" "" trace < /
     compare "an answer that cannot be written" 3 "" "raft_trace: No space left on device (os error 28)" \
         trace_into_full_device < <(start)

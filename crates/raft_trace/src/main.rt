@@ -118,6 +118,9 @@ fn judge_lists(rt: &HostRuntime, lists: &mut [SourceLines], is_drawn: bool) -> i
     let mut answer = String::new(rt.alloc());
     let progress = Progress::on(rt.stderr());
     let status = run::run(rt.alloc(), lists, progress, is_drawn, &mut answer);
+    if answer.is_empty() {
+        return Err(io::Error::from(AllocError));
+    }
     rt.print(answer.as_str())?;
     Ok(status)
 }

@@ -50,7 +50,8 @@ impl From<AllocError> for Stop {
 /// order of each list is kept, and no order between the lists is known.
 ///
 /// Returns the exit status: 0 if the run is safe, 1 if the next line of each list breaks a rule, 2
-/// if a line is no event, and 3 if an input cannot be read, or if there is no memory.
+/// if a line is no event, and 3 if an input cannot be read, or if there is no memory. The answer is
+/// empty if there is no memory to write it.
 pub fn run<B: BufRead>(
     alloc: Global,
     lists: &mut [Lines<B>],
@@ -64,7 +65,10 @@ pub fn run<B: BufRead>(
 {
     match judge_lists(alloc, lists, progress, is_drawn, answer) {
         Ok(status) => status,
-        Err(AllocError) => 3,
+        Err(AllocError) => {
+            answer.clear();
+            3
+        }
     }
 }
 
