@@ -57,8 +57,9 @@ pub struct Facts {
     votes: BTreeMap<u64, Vote>,
     /// The campaigns of candidates in terms.
     campaigns: BTreeMap<(u64, u64), Place>,
-    /// The last acknowledgement of each server.
-    acks: BTreeMap<u64, Acknowledged>,
+    /// Acknowledgements of each server, the last one at the end: each is of fewer entries than the
+    /// one before it. The others say nothing that a later one does not say too.
+    acks: BTreeMap<u64, Vec<Acknowledged>>,
     /// The entries that were written in each term.
     written: BTreeMap<u64, Written>,
 }
@@ -132,7 +133,12 @@ impl Facts {
             len,
             place,
         };
-        self.acks.insert(server, ack)?;
+        if let Some(acks) = self.acks.get_mut(&server) {
+            return note_last(acks, ack);
+        }
+        let mut acks = Vec::new(self.alloc);
+        acks.push(ack)?;
+        self.acks.insert(server, acks)?;
         Ok(())
     }
 
@@ -169,9 +175,12 @@ impl Facts {
         self.campaigns.get(&(term, candidate)).copied()
     }
 
-    /// Returns the last acknowledgement of a server.
-    pub fn last_ack(&self, server: u64) -> Option<Acknowledged> {
-        self.acks.get(&server).copied()
+    /// Returns the last acknowledgement of a server that is of more than so many first entries. If
+    /// the server must not lose the next entry, this acknowledgement is a reason.
+    pub fn last_ack_after(&self, server: u64, len: usize) -> Option<Acknowledged> {
+        let acks = self.acks.get(&server)?;
+        let count = acks.partition_point(|ack| len < ack.len);
+        acks.get(count.checked_sub(1)?).copied()
     }
 
     /// Returns who has written the last of so many first entries, which is of this term, and where
@@ -182,4 +191,13 @@ impl Facts {
         let place = written.places.get(number)?;
         Some((written.leader, *place))
     }
+}
+
+/// Notes an acknowledgement as the last one.
+fn note_last(acks: &mut Vec<Acknowledged>, ack: Acknowledged) -> Result<(), AllocError> {
+    let len = ack.len;
+    let count = acks.partition_point(|earlier| len < earlier.len);
+    acks.truncate(count);
+    acks.push(ack)?;
+    Ok(())
 }

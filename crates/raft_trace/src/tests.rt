@@ -3,6 +3,7 @@
 mod applied;
 mod bounds;
 mod chart;
+mod contradicted;
 mod fills;
 mod names;
 
@@ -46,7 +47,7 @@ const ROWS: [(&str, u8, &str); 18] = [
         r#"{"event":"granted","server":2,"term":2,"candidate":3}"#,
         1,
         "line 9: server 2 votes in term 2 for 3: the candidate's log is not as up to date as the \
-            server's\n  line 8: server 3 campaigns in term 2\n",
+            server's\n  line 8: server 3 campaigns in term 2\n  line 4: leader 1 writes index 2 in term 1\n",
     ),
     (
         r#"{"event":"committed","leader":1,"term":1,"index":2}"#,
