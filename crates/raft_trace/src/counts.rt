@@ -26,6 +26,8 @@ pub struct Counts {
     pub appends: u64,
     /// The terms in which a leader has written an entry.
     pub terms: BTreeSet<u64>,
+    /// These terms and the first leader that has written in each, the newest last.
+    pub leaders: Vec<(u64, u64)>,
     /// The greatest number of entries that a leader has committed.
     pub committed: usize,
     /// The greatest term of which a leader has committed entries, and this leader.
@@ -47,6 +49,7 @@ impl Counts {
             acks: 0,
             appends: 0,
             terms: BTreeSet::new(alloc),
+            leaders: Vec::new(alloc),
             committed: 0,
             committed_by: None,
             votes: BTreeMap::new(alloc),
@@ -111,8 +114,10 @@ impl Counts {
                 self.servers.insert(*server)?;
                 self.votes.insert(*server, (*term, *candidate))?;
             }
-            Event::Wrote { term, .. } => {
-                self.terms.insert(*term)?;
+            Event::Wrote { leader, term, .. } => {
+                if self.terms.insert(*term)? {
+                    self.leaders.push((*term, *leader))?;
+                }
             }
             Event::Committed {
                 leader,
@@ -145,6 +150,12 @@ impl Counts {
             Event::Acked { .. } => self.acks = self.acks.saturating_add(1),
             _ => self.appends = self.appends.saturating_add(1),
         }
+    }
+
+    /// Returns a leader that has written an entry, and its term. The newest one is number 0.
+    pub fn newest_leader(&self, number: usize) -> Option<(u64, u64)> {
+        let place = self.leaders.len().checked_sub(number)?.checked_sub(1)?;
+        self.leaders.get(place).copied()
     }
 
     /// Notes that a leader commits so many first entries.

@@ -14,8 +14,8 @@ use raft_safety::event::Event;
 use serde_json::Value;
 use std::alloc::{AllocError, Global};
 
-/// How many of the newest leaders are tried as the one whose entries a server has read from its
-/// disk.
+/// How many of the newest candidates, and then of the newest leaders that have written entries, are
+/// tried as the one whose entries a server has read from its disk.
 const TRIED: usize = 64;
 
 impl Judge {
@@ -173,8 +173,8 @@ impl Judge {
         if len == 0 || self.has_entry(server, len, last_term) {
             return Ok(());
         }
-        for number in 0..TRIED {
-            let Some((term, leader)) = self.checker.newest_leader(number) else {
+        for number in 0..2 * TRIED {
+            let Some((term, leader)) = self.tried_leader(number) else {
                 return Ok(());
             };
             if self.append_from(alloc, server, term, leader, len, last_term)? {
@@ -182,6 +182,14 @@ impl Judge {
             }
         }
         Ok(())
+    }
+
+    /// Returns the term and the id of a leader whose entries a server may have read from its disk.
+    fn tried_leader(&self, number: usize) -> Option<(u64, u64)> {
+        match number.checked_sub(TRIED) {
+            Some(written) => self.counts.newest_leader(written),
+            None => self.checker.newest_leader(number),
+        }
     }
 
     /// Whether so many first entries of a server end with an entry of a term.

@@ -1,6 +1,7 @@
 //! Answers to runs of which the judge fills in events, and whose members change.
 
-use super::is_answered;
+use super::{LED, is_answered, judged};
+use std::alloc::{AllocError, Global};
 use std::test::Fail;
 
 /// Lines after those of `LED`, and the status and the answer.
@@ -145,6 +146,31 @@ const ROWS: [(&str, u8, &str); 17] = [
 fn answers_to_each_row(rt: HostRuntime) -> Result<(), Fail> {
     for (row, status, answer) in ROWS {
         assert!(rt; is_answered(rt.alloc(), row, status, answer)?, "{row}");
+    }
+    Ok(())
+}
+
+/// Returns the status of a run in which so many campaigns fail after those of `LED`, and then a
+/// server restarts with an entry of the leader of term 1.
+fn restarted_after(alloc: Global, campaigns: u64) -> Result<u8, AllocError> {
+    let mut text = String::from_str(alloc, LED)?;
+    for number in 0..campaigns {
+        let term = number.saturating_add(3);
+        writeln!(
+            text,
+            "{{\"event\":\"campaigned\",\"server\":3,\"term\":{term}}}"
+        )?;
+    }
+    text.push_str(r#"{"event":"restarted","server":4,"index":2,"last_term":1}"#)?;
+    let (status, _said) = judged(alloc, text.as_str())?;
+    Ok(status)
+}
+
+#[test]
+fn failed_campaigns_hide_no_leader(rt: HostRuntime) -> Result<(), Fail> {
+    for campaigns in [0, 63, 64, 200] {
+        let status = restarted_after(rt.alloc(), campaigns)?;
+        assert!(rt; status == 0, "{campaigns} campaigns");
     }
     Ok(())
 }
