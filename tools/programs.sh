@@ -68,6 +68,44 @@ many_snapshots() {
     printf '{"event":"wrote","leader":1,"term":1,"content":7}\n'
     yes '{"event":"appended","server":2,"term":1,"leader":1,"index":1}' | head -n 100000
 }
+# A run of five servers and 70,000 entries. Server 2 campaigns and fails before each tenth entry, and server 1 leads again.
+# Server 5 takes snapshots, and server 4 restarts with entries of which no other line says that it has taken them.
+long_run() {
+    awk '
+        function line(event, fields) { printf "{\"event\":\"%s\",%s}\n", event, fields }
+        function named(name, id) { return sprintf("\"%s\":%d,\"term\":%d", name, id, term) }
+        function indexed(server) { return named("server", server) sprintf(",\"leader\":1,\"index\":%d", i) }
+        BEGIN {
+            line("started", "\"voters\":[[1,2,3,4,5]]")
+            for (i = 1; i <= 70000; i++) {
+                if (i % 10 == 1) {
+                    term++
+                    line("campaigned", named("server", 2))
+                    term++
+                    line("campaigned", named("server", 1))
+                    line("granted", named("server", 2) ",\"candidate\":1")
+                    line("granted", named("server", 3) ",\"candidate\":1")
+                }
+                line("wrote", named("leader", 1) sprintf(",\"index\":%d,\"content\":%d", i, i))
+                for (s = 1; s <= 4; s++) {
+                    if (s == 4 && i % 25 == 0)
+                        line("restarted", sprintf("\"server\":4,\"index\":%d,\"last_term\":%d", i, term))
+                    else
+                        line("appended", named("server", s) \
+                            sprintf(",\"leader\":1,\"prev\":%d,\"entries\":[[%d,%d]]", i - 1, term, i))
+                    line("acked", indexed(s))
+                }
+                line("committed", named("leader", 1) sprintf(",\"index\":%d", i))
+                for (s = 1; s <= 4; s++)
+                    line("applied", sprintf("\"server\":%d,\"index\":%d", s, i))
+                if (i % 20 == 0) {
+                    line("appended", indexed(5))
+                    line("acked", indexed(5))
+                    line("applied", sprintf("\"server\":5,\"index\":%d", i))
+                }
+            }
+        }'
+}
 # Forty bytes of a long word, as a reason shows them: a piece, over and over. The piece `\x00` is one byte.
 cut_word() {
     local piece=$1 shown="" bytes=${#1}
@@ -164,6 +202,8 @@ records() {
     compare "a long line without memory" 3 "line 2: out of memory" "" trace_within 28000 \
         < <(start; printf '{"x":"'; ten_megabytes a; printf '","event":"campaigned","server":1,"term":1}\n')
     compare "a chart without memory" 3 "" "raft_trace: out of memory" trace_within 14000 --chart < <(many_snapshots)
+    compare "a million lines" 0 "safe: 1,018,500 events, 5 servers, 7,000 terms with a leader, 70,000 committed, 0 membership\
+ changes, 2,800 appends inferred" "" trace_within 60000 < <(long_run)
     compare "a record that cannot be read" 3 "standard input: Is a directory (os error 21)" "" trace < /
     compare "an answer that cannot be written" 3 "" "raft_trace: No space left on device (os error 28)" \
         trace_into_full_device < <(start)
