@@ -61,8 +61,8 @@ impl Record {
         Ok(())
     }
 
-    /// Adds the line of an act to the list of its server, or to the only list. `log` is the log of the
-    /// server after the event.
+    /// Adds the line of an act to the list of its server, or to the only list. `log` is the log of
+    /// the server after the event.
     pub fn push(&mut self, act: &Act, log: &[Entry]) -> Result<(), AllocError> {
         let others = self.lists.len().saturating_sub(1);
         let place = server_of(act).saturating_sub(1) as usize;

@@ -112,12 +112,11 @@ impl Trace {
     pub fn record(&mut self, view: &View, said: Said) -> Result<(), Violation> {
         let acts = self.acts(view, said)?;
         let place = view.server.saturating_sub(1) as usize;
-        let log = match self.servers.get(place) {
-            Some(server) => server.log.as_slice(),
-            None => &[],
+        let Some(server) = self.servers.get(place) else {
+            return Ok(());
         };
         for act in &acts {
-            self.record.push(act, log)?;
+            self.record.push(act, &server.log)?;
             match self.checker.record(act) {
                 Ok(()) => self.allowed = self.allowed.saturating_add(1),
                 Err(violation) => {
