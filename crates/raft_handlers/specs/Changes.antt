@@ -1,5 +1,5 @@
 -- What a change of the membership leaves of what a leader knows, and what its entry stores.
-use Rattle.std.specs.Prelude.{◌≡◌, ◌<◌, ℕ, Bool, true, false, Some, None, Option, is_some, length, IsTrue}
+use Rattle.std.specs.Prelude.{◌≡◌, ◌<◌, ℕ, ◌+◌, ◌-◌, ◌^◌, min, Bool, true, false, Some, None, Option, is_some, length, IsTrue}
 use Rattle.std.specs.declared.cmp.Ordering.{Ordering}
 use Rattle.raft_base.specs.declared.log_id.LogIdOf.{LogIdOf}
 use Rattle.raft_handlers.specs.Compared.{Compared}
@@ -22,6 +22,10 @@ use Rattle.raft_state.specs.declared.entry.EntryOf.{EntryOf}
 use Rattle.raft_state.specs.declared.entry.payload.EntryPayload.{EntryPayload}
 use Rattle.raft_state.specs.declared.entry.payload.EntryPayload.TheVariants.{Blank, Normal, Membership}
 
+-- the number past another one, and the greatest number past itself
+abbrev pub number_past : ℕ → ℕ
+number_past last = min (last + 1) (2 ^ 64 - 1)
+
 module _ {K N C : Type 0} (eq : K → K → Bool) where
   -- who stays a member keeps what is known of it, and of a new member nothing is known but that its
   -- log does not match from an index on; its requests are numbered after a number
@@ -34,9 +38,10 @@ module _ {K N C : Type 0} (eq : K → K → Bool) where
     pub added : (id : K) (entry : ProgressEntryOf C) → (state eq old.progress).value id ≡ None
         → (state eq new.progress).value id ≡ Some entry → entry ≡ new_entry end last_request
 
-  -- the same of what a leader knows
+  -- the same of what a leader knows, with a number that it has not used for a request before
   abbrev pub KeepsEntries : ℕ → Leadership K N C → Leadership K N C → Type 0
-  KeepsEntries end old new = KeepsValues end old.last_request old.followers new.followers
+  KeepsEntries end old new =
+      KeepsValues end (number_past old.last_request) old.followers new.followers
 
 -- an entry stores a membership: equal configs, and equal nodes
 abbrev pub StoresMembership : {K N D : Type 0} → (K → K → Bool) → (N → N → Bool) → MemberList K N
@@ -89,7 +94,10 @@ module _ {K N I L C : Type 0} (by : Compared K N L C) where
     pub still_known : 0 < length old.followers.membership.configs
         → old.followers.membership.configs ≡ (in_effect before.membership_state).configs
         → QuorumsHave by.id_eq by.cmp new (granted_by old)
-    pub node : new ≡ record old { followers = new.followers }
+    pub node : new ≡ record old {
+      followers = new.followers;
+      last_request = number_past old.last_request;
+    }
 
   -- a membership is refused, and the leader and its state are as they were
   pub record RefusesMembers (D : Type 0) (fits : Bool) (next : Members K N) (old : Leadership K N C)

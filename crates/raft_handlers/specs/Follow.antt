@@ -1,5 +1,5 @@
 -- When a server follows a leader that has sent a request, and the vote that it then has.
-use Rattle.std.specs.Prelude.{ℕ, Bool, true, Option, if◌then◌else◌}
+use Rattle.std.specs.Prelude.{Bool, true, Option, if◌then◌else◌}
 use Rattle.std.specs.Ordering.{partial_ge}
 use Rattle.std.specs.declared.cmp.Ordering.{Ordering}
 use Rattle.raft_base.specs.UTime.{moment_of, utime_of}
@@ -7,6 +7,7 @@ use Rattle.raft_base.specs.Vote.{vote_cmp}
 use Rattle.raft_base.specs.declared.utime.UTime.{UTime}
 use Rattle.raft_base.specs.declared.vote.VoteIn.{VoteIn}
 use Rattle.raft_handlers.specs.declared.message.Outcome.TheVariants.{HigherVote}
+use Rattle.raft_handlers.specs.declared.message.RequestNumber.{RequestNumber}
 use Rattle.raft_handlers.specs.declared.message.Response.{Response}
 use Rattle.raft_state.specs.raft_state.VoteAndLog.{vote_of}
 use Rattle.raft_state.specs.declared.raft_state.RaftStateIn.{RaftStateIn}
@@ -34,7 +35,7 @@ heard order leader s = record s { vote = vote_heard order leader s }
 
 -- the response to a leader that is not followed: it names the leader and the request, and has the vote
 -- that the server has promised
-abbrev pub higher_vote_response : {K N I L C : Type 0} → (leader : C) → (request : Option ℕ)
+abbrev pub higher_vote_response : {K N I L C : Type 0} → (leader : C) → (request : RequestNumber)
     → RaftStateIn K N I L C → Response L C
 higher_vote_response leader request s =
     record { leader_id = leader; request = request; outcome = HigherVote (vote_of s) }

@@ -38,7 +38,7 @@ use Rattle.raft_state.specs.raft_state.Valid.{none_or_logged}
 use Rattle.raft_state.specs.declared.raft_state.RaftStateIn.{RaftStateIn}
 
 -- the node that leads, its committed leader id, what it knows of each member by its membership, and the
--- greatest number of a request that it has sent
+-- greatest number that it has used for a request
 pub record Leadership (K N C : Type 0) : Type 0 where
   pub id : K
   pub leader_id : C
@@ -66,18 +66,15 @@ abbrev pub is_removed : {K N M C : Type 0} → (K → K → Bool) → Leadership
     → Bool
 is_removed eq l m = not (may_campaign eq l.id m)
 
--- what is known of a member whose log does not match from an index on, and no more
-abbrev pub unknown_entry : {C : Type 0} → ℕ → ProgressEntryOf C
-unknown_entry end = record {
+-- what is known of a new member: its log does not match from an index on, and no more; its requests
+-- are numbered after this number
+abbrev pub new_entry : {C : Type 0} → ℕ → (last_request : ℕ) → ProgressEntryOf C
+new_entry end last_request = record {
   matching = None;
-  curr_inflight_id = 0;
+  curr_inflight_id = last_request;
   inflight = Idle;
   searching_end = end;
 }
-
--- what is known of a new member: nothing, and its requests are numbered after this number
-abbrev pub new_entry : {C : Type 0} → ℕ → (last_request : ℕ) → ProgressEntryOf C
-new_entry end last_request = record (unknown_entry end) { curr_inflight_id = last_request }
 
 -- the value of one member is this one now, and membership and other values are as they were
 pub record WritesMember {K N C : Type 0} (eq : K → K → Bool) (old : Followers K N C) (id : K)
@@ -98,12 +95,12 @@ module _ {K N C : Type 0} (eq : K → K → Bool) where
 
   -- a node begins to lead with a committed leader id: it counts by a copy of the effective membership
   -- of a state, of which each voter is counted, and nothing is known of the members but that no log
-  -- matches the leader's from its end on
+  -- matches the leader's from its end on; all requests are numbered after a number
   pub record BeginsToLead {I L : Type 0} (same : N → N → Bool) (id : K) (leader_id : C)
-      (s : RaftStateIn K N I L C) (l : Leadership K N C) : Type 0 where
+      (last_request : ℕ) (s : RaftStateIn K N I L C) (l : Leadership K N C) : Type 0 where
     pub node : l.id ≡ id
     pub leader : l.leader_id ≡ leader_id
-    pub no_request : l.last_request ≡ 0
+    pub numbered : l.last_request ≡ last_request
     pub members : IsTrue (same_members eq same (membership_of s.membership_state.effective)
         l.followers.membership)
     pub configs : l.followers.membership.configs
@@ -112,7 +109,7 @@ module _ {K N C : Type 0} (eq : K → K → Bool) where
         → IsTrue (is_voter_of eq (membership_of s.membership_state.effective).configs x)
         → IsTrue (is_some (entry_of l x))
     pub entries : (x : K) (entry : ProgressEntryOf C) → entry_of l x ≡ Some entry
-        → entry ≡ unknown_entry (end_index (full_log s.log_ids))
+        → entry ≡ new_entry (end_index (full_log s.log_ids)) last_request
 
 -- an elected candidate becomes the leader: a majority of each config has voted for it, the vote of the
 -- state is the candidate's and is committed now, and nothing is known of the members yet
@@ -121,7 +118,7 @@ pub record BecomesLeader {K N I L C : Type 0} (by : Compared K N L C) (candidate
   pub elected : HasMajorities by.id_eq candidate
   pub vote : IsTrue (same_vote by.leader_eq (vote_of old) candidate.vote)
   pub begins : BeginsToLead by.id_eq by.node_eq candidate.id
-      (by.committed (vote_of old).leader_id) old made
+      (by.committed (vote_of old).leader_id) 0 old made
   pub committed : new ≡ record old {
     vote = utime_of (record (vote_of old) { committed = true }) (moment_of old.vote);
   }
@@ -175,15 +172,17 @@ abbrev pub is_commit_due : {K N I L C : Type 0} → OrdMembers C → Leadership 
 is_commit_due by l s =
     is_of_leader by.eq l.leader_id (granted_by l) && id_lt by.cmp s.committed (granted_by l)
 
--- what a leader commits, if a commit is due: what a quorum has, which is in its log, and all before it
+-- what a leader commits, if a commit is due: what a quorum has, which is in its log, and all before it.
+-- The answer is what is committed then, and none if no commit is due
 pub record Commits {K N I L C : Type 0} (eq : K → K → Bool) (by : OrdMembers C) (leader : Leadership K N C)
-    (old new : RaftStateIn K N I L C) (more : Bool) : Type 0 where
-  pub answer : more ≡ is_commit_due by leader old
-  pub logged : IsTrue more → IsTrue (none_or_logged by.eq (log_view_of old) (granted_by leader))
-  pub is_granted : IsTrue more → new.committed ≡ granted_by leader
+    (old new : RaftStateIn K N I L C) (upto : Option (LogIdOf C)) : Type 0 where
+  pub answer : upto ≡ (if is_commit_due by leader old then granted_by leader else None)
+  pub logged : IsTrue (is_some upto)
+      → IsTrue (none_or_logged by.eq (log_view_of old) (granted_by leader))
+  pub is_granted : IsTrue (is_some upto) → new.committed ≡ granted_by leader
   pub greatest : IsGreatestMatch eq by.cmp leader (granted_by leader)
   pub committed : new
-      ≡ (if more then state_after_commit by.cmp (granted_by leader) old else old)
+      ≡ (if is_some upto then state_after_commit by.cmp (granted_by leader) old else old)
 
 -- why the commit of what is granted is refused: the log does not have it, the memberships are not in
 -- the order of the log, or an allocation failed, which only the commit of a membership makes

@@ -7,8 +7,11 @@ use Rattle.std.specs.Prelude.{
   ◌^◌,
   Bool,
   false,
+  if◌then◌else◌,
   min,
   max,
+  nat_eq,
+  nat_lt,
   Option,
   Some,
   None,
@@ -22,8 +25,10 @@ use Rattle.std.specs.Prelude.{
 use Rattle.std.specs.Option.{option_map_or}
 use Rattle.std.specs.Result.{result_unwrap_or}
 use Rattle.std.specs.declared.cmp.Ordering.{Ordering}
-use Rattle.raft_base.specs.LogView.{LogView}
+use Rattle.raft_base.specs.LogId.{id_lt, next_index}
+use Rattle.raft_base.specs.LogView.{LogView, prev_id}
 use Rattle.raft_base.specs.Logged.{Logged}
+use Rattle.raft_base.specs.declared.log_id.LogIdOf.{LogIdOf}
 use Rattle.raft_progress.specs.entry.EntryTable.{entry_after_ack, entry_after_conflict}
 pub use Rattle.raft_progress.specs.entry.Probe.{after_probe, after_send, is_probe_due, is_searched, limit_of, with_probe}
 use Rattle.raft_progress.specs.entry.Request.{after_request}
@@ -31,14 +36,24 @@ use Rattle.raft_progress.specs.inflight.Inflight.{id_of, is_idle}
 use Rattle.raft_progress.specs.progress.Comparisons.{OrdMembers}
 use Rattle.raft_progress.specs.declared.entry.ProgressEntryOf.{ProgressEntryOf}
 use Rattle.raft_progress.specs.declared.inflight.InflightError.{InflightError}
+use Rattle.raft_progress.specs.declared.inflight.InflightError.TheVariants.{IndexTooLarge}
 use Rattle.raft_progress.specs.declared.inflight.InflightOf.{InflightOf}
 use Rattle.raft_progress.specs.declared.inflight.InflightOf.TheVariants.{None as Idle}
 use Rattle.raft_state.specs.raft_state.Sending.{FromLog}
 use Rattle.raft_handlers.specs.Leadership.{Leadership, WritesEntry, WritesMember, entry_of}
 use Rattle.raft_handlers.specs.declared.error.ResponseError.{ResponseError}
-use Rattle.raft_handlers.specs.declared.error.ResponseError.TheVariants.{Foreign, HigherVote, Inflight, UnknownMember}
+use Rattle.raft_handlers.specs.declared.error.ResponseError.TheVariants.{
+  Foreign,
+  HigherVote,
+  Inflight,
+  LateHeartbeat,
+  UnknownMember,
+}
+use Rattle.raft_handlers.specs.declared.message.Heartbeat.{Heartbeat as HeartbeatOf}
 use Rattle.raft_handlers.specs.declared.message.Outcome.{Outcome}
 use Rattle.raft_handlers.specs.declared.message.Outcome.TheVariants.{Matches, Conflict, HigherVote as RefusedFor}
+use Rattle.raft_handlers.specs.declared.message.RequestNumber.{RequestNumber}
+use Rattle.raft_handlers.specs.declared.message.RequestNumber.TheVariants.{InFlight, Heartbeat}
 use Rattle.raft_handlers.specs.declared.message.Response.{Response}
 
 -- a response answers a request of this leader
@@ -69,21 +84,57 @@ abbrev pub after_conflict : {C : Type 0} → ProgressEntryOf C → Option ℕ �
 after_conflict entry request index last =
     with_hint last (entry_after_conflict entry request index)
 
--- an acknowledgement of a request raises the match, a conflict lowers the end of the search, the
--- response to a heartbeat that matches changes nothing, and that of a higher vote is refused
-abbrev pub after_outcome : {L C : Type 0} → (C → C → Ordering) → ProgressEntryOf C → Option ℕ
-    → Outcome L C → Result (ProgressEntryOf C) ResponseError
-after_outcome cmp entry (Some request) (Matches upto) =
-    as_refused (entry_after_ack cmp entry request upto)
-after_outcome cmp entry None (Matches upto) = Ok entry
-after_outcome cmp entry request (Conflict index last) =
-    as_refused (after_conflict entry request index last)
+-- what is known of a member that matches up to a log id, of which a request in flight said nothing:
+-- this is its match, and nothing is in flight any more
+abbrev pub matched : {C : Type 0} → ProgressEntryOf C → Option (LogIdOf C) → ProgressEntryOf C
+matched entry upto = record entry {
+  matching = upto;
+  inflight = Idle;
+  searching_end = max entry.searching_end (next_index upto);
+}
+
+-- the response to a heartbeat that the member matches up to a log id. It raises the match, and never
+-- lowers it
+abbrev pub after_match : {C : Type 0} → (C → C → Ordering) → ProgressEntryOf C
+    → Option (LogIdOf C) → Result (ProgressEntryOf C) InflightError
+after_match cmp entry upto =
+    if id_lt cmp entry.matching upto
+    then (if nat_lt (next_index upto) (2 ^ 64) then Ok (matched entry upto) else Err IndexTooLarge)
+    else Ok entry
+
+-- the response to a heartbeat is late, and refused, if a request was sent to the member after the
+-- heartbeat
+abbrev pub unless_late : {S C : Type 0} → ProgressEntryOf C → ℕ → Result S InflightError
+    → Result S ResponseError
+unless_late entry number response =
+    if nat_eq entry.curr_inflight_id number then as_refused response else Err LateHeartbeat
+
+-- an acknowledgement raises the match, a conflict lowers the end of the search, and the response of a
+-- higher vote is refused
+abbrev pub after_outcome : {L C : Type 0} → (C → C → Ordering) → ProgressEntryOf C
+    → RequestNumber → Outcome L C → Result (ProgressEntryOf C) ResponseError
+after_outcome cmp entry (InFlight number) (Matches upto) =
+    as_refused (entry_after_ack cmp entry number upto)
+after_outcome cmp entry (Heartbeat number) (Matches upto) =
+    unless_late entry number (after_match cmp entry upto)
+after_outcome cmp entry (InFlight number) (Conflict index last) =
+    as_refused (after_conflict entry (Some number) index last)
+after_outcome cmp entry (Heartbeat number) (Conflict index last) =
+    unless_late entry number (after_conflict entry None index last)
 after_outcome cmp entry request (RefusedFor vote) = Err HigherVote
 
 -- what is known of a member after its response
 abbrev pub after_response : {L C : Type 0} → (C → C → Ordering) → ProgressEntryOf C → Response L C
     → Result (ProgressEntryOf C) ResponseError
 after_response cmp entry response = after_outcome cmp entry response.request response.outcome
+
+-- what a heartbeat says to a member: the number of the last request to it, and the log id before the
+-- end of the search for its match
+abbrev pub heartbeat_to : {C : Type 0} → LogView C → ProgressEntryOf C → HeartbeatOf C
+heartbeat_to log entry = record {
+  request = Heartbeat entry.curr_inflight_id;
+  prev = prev_id log.id_at entry.searching_end;
+}
 
 -- the greatest number of a request, once this is sent
 abbrev pub number_after : {C : Type 0} → ℕ → Option (InflightOf C) → ℕ

@@ -279,6 +279,9 @@ pub enum ResponseError {
     /// The member has promised a higher vote: promise it too, and step down.
     #[error("the member has promised a higher vote")]
     HigherVote,
+    /// The response is to a heartbeat, and a request was sent to the member after that.
+    #[error("the response is to a heartbeat before the last request")]
+    LateHeartbeat,
     /// The response does not fit what is in flight to the member.
     #[error(transparent)]
     Inflight(InflightError),

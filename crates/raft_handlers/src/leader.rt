@@ -39,7 +39,7 @@ where
     id: NID,
     leader_id: C,
     followers: Tracked<NID, N, ProgressEntryOf<C>, Option<LogIdOf<C>>>,
-    /// The greatest number of a request that was sent. The requests to a member that is added are
+    /// The greatest number that was used for a request. The requests to a member that is added are
     /// numbered after it, so a response to an earlier request to the same node is refused.
     last_request: u64,
 }
@@ -97,7 +97,7 @@ impl<NID: NodeId, N: Node, C: Ord + Copy + Drop> Leader<NID, N, C> {
         }
         let leader_id = L::to_committed(state.vote_ref().leader_id());
         let end = last.next_index();
-        let leader = Leader::with_unknown_members(candidate.id(), leader_id, end, state)?;
+        let leader = Leader::with_unknown_members(candidate.id(), leader_id, 0, end, state)?;
         state.vote.get_mut().commit();
         Ok(leader)
     }
@@ -105,13 +105,16 @@ impl<NID: NodeId, N: Node, C: Ord + Copy + Drop> Leader<NID, N, C> {
     /// Makes the node of a committed vote the leader anew, as after a restart.
     ///
     /// Call it only if the log has every entry that the node has sent in this term. Otherwise the
-    /// leader could write another entry under a log id that a follower has already. Nor may the
-    /// node add a member with an empty disk that it has removed in this term: requests are numbered
-    /// from 1 on again, so a late acknowledgement of the member's earlier life could be taken. The
-    /// state does not show what was sent, so this is not tested.
+    /// leader could write another entry under a log id that a follower has already.
+    ///
+    /// Requests are numbered after `last_request`, which is at least each number that the node has
+    /// used in this term, so a late response is refused. A clock in microseconds gives such a
+    /// number, or a count of restarts on the disk, times 2^32. The state does not show what was
+    /// sent, so neither condition is tested.
     pub fn resume<I: Instant, L: LeaderIdentity<Id = NID, Committed = C> + Drop>(
         id: NID,
         state: &State<NID, N, I, L>,
+        last_request: u64,
     ) -> Result<Self, ResumeError>
     where
         C: Default + 'static,
@@ -119,7 +122,7 @@ impl<NID: NodeId, N: Node, C: Ord + Copy + Drop> Leader<NID, N, C> {
         ensures leads { let by = compared NID.Ord N.eq L.LeaderIdentity C.Ord in
             IfOk result (λ made. IsTrue (is_leading by made state.now)) }
         ensures begins { IfOk result (BeginsToLead NID.eq N.eq id
-            (L.committed (vote_of state.now).leader_id) state.now) }
+            (L.committed (vote_of state.now).leader_id) last_request state.now) }
         ensures refused { let by = compared NID.Ord N.eq L.LeaderIdentity C.Ord in
             IfErr result (IsResumeRefusal by id state.now) }
     {
@@ -132,28 +135,34 @@ impl<NID: NodeId, N: Node, C: Ord + Copy + Drop> Leader<NID, N, C> {
             return Err(ResumeError::NoNextIndex);
         }
         let leader_id = L::to_committed(vote.leader_id());
-        let leader = Leader::with_unknown_members(id, leader_id, last.next_index(), state)?;
+        let end = last.next_index();
+        let leader = Leader::with_unknown_members(id, leader_id, last_request, end, state)?;
         Ok(leader)
     }
 
-    /// Returns a leader that knows nothing of the members of a state, whose log has this end.
+    /// Returns a leader that knows nothing of the members of a state, whose log has this end, and
+    /// numbers its requests after a number.
     fn with_unknown_members<I: Instant, L: Drop>(
         id: NID,
         leader_id: C,
+        last_request: u64,
         end: u64,
         state: &RaftStateIn<NID, N, I, L, C>,
     ) -> Result<Self, AllocError>
         requires clones_are_equal { ClonesAreEqual N.eq N.is_clone }
         requires end { end ≡ end_index (full_log state.now.log_ids) }
-        ensures begins { IfOk result (BeginsToLead NID.eq N.eq id leader_id state.now) }
+        ensures begins { IfOk result
+            (BeginsToLead NID.eq N.eq id leader_id last_request state.now) }
     {
         let members = state.membership_state.effective().membership().try_clone()?;
-        let followers = Tracked::new(members, ProgressEntryOf::<C>::empty(end))?;
+        let unknown = ProgressEntryOf::<C>::empty(end);
+        let unknown = unknown.with_curr_inflight_id(last_request);
+        let followers = Tracked::new(members, unknown)?;
         Ok(Leader {
             id,
             leader_id,
             followers,
-            last_request: 0,
+            last_request,
         })
     }
 
@@ -180,8 +189,10 @@ impl<NID: NodeId, N: Node, C: Ord + Copy + Drop> Leader<NID, N, C> {
     }
 
     /// Returns what is known of a member: up to which log id it matches, what is in flight to it,
-    /// which may be entries or a snapshot, and up to where a probe searches for the last match. The
-    /// result is `None` for an id of no member.
+    /// and the end of the search for its last match. The result is `None` for an id of no member.
+    ///
+    /// What is in flight is entries after a log id, a probe, which is an empty range of them, or a
+    /// snapshot.
     pub fn member(&self, id: &NID) -> Option<&ProgressEntryOf<C>>
         ensures { option_copied result ≡ entry_of NID.eq self.now id.now }
     {

@@ -27,7 +27,10 @@ pub use error::{
     ResponseError, RestartError, ResumeError, SnapshotError, StartError,
 };
 pub use leader::{ChangeError, Leader};
-pub use message::{AppendEntries, InstallSnapshot, Outcome, Response, VoteRequest, VoteResponse};
+pub use message::{
+    AppendEntries, Heartbeat, InstallSnapshot, Outcome, RequestNumber, Response, VoteRequest,
+    VoteResponse,
+};
 pub use restart::{Stored, restart_server};
 pub use snapshot::handle_install_snapshot;
 pub use start::start_cluster;

@@ -27,14 +27,37 @@ pub struct VoteResponse<L> {
     pub granted: bool,
 }
 
-/// A leader's request to append entries. Without entries it is a heartbeat, or a probe, which asks
+/// The number of a leader's request, which the response says again.
+///
+/// A leader numbers what it sends to a member. After a change of members it goes on with a number
+/// that it has not used, so a response to an earlier member with the same id is refused.
+#[derive(Debug, Clone, Copy, PartialEq, Eq)]
+pub enum RequestNumber {
+    /// The number of a request that is in flight until it is answered.
+    InFlight(u64),
+    /// The number of the last request to the member before a heartbeat. A heartbeat is not in
+    /// flight.
+    Heartbeat(u64),
+}
+
+/// What a leader's heartbeat says to a member: a request without entries, which is not in flight.
+#[derive(Debug, Clone, Copy, PartialEq, Eq)]
+pub struct Heartbeat<C> {
+    /// The number of the heartbeat.
+    pub request: RequestNumber,
+    /// The last log id that the member may have of the leader's log, so a response that it matches
+    /// ends the search.
+    pub prev: Option<LogIdOf<C>>,
+}
+
+/// A leader's request to append entries. Without entries it is a heartbeat or a probe, which asks
 /// whether the follower's log has `prev`.
 #[derive(Drop)]
 pub struct AppendEntries<L, C, NID: NodeId, N: Node, D> {
     /// The leader, which a quorum has elected.
     pub leader_id: L,
-    /// The number of the request. A heartbeat has none.
-    pub request: Option<u64>,
+    /// The number of the request.
+    pub request: RequestNumber,
     /// The log id before the entries in the leader's log, or none if they begin the log.
     pub prev: Option<LogIdOf<C>>,
     /// The entries, with consecutive indexes after that of `prev`.
@@ -75,8 +98,8 @@ pub enum Outcome<L, C> {
 pub struct Response<L, C> {
     /// The committed leader id of the leader whose request it answers.
     pub leader_id: C,
-    /// The number of the request. The response to a heartbeat has none.
-    pub request: Option<u64>,
+    /// The number of the request that it answers.
+    pub request: RequestNumber,
     /// What the follower has made of the request.
     pub outcome: Outcome<L, C>,
 }
@@ -108,6 +131,16 @@ impl<L: fmt::Debug, C: fmt::Debug, NID: NodeId, N: Node, D> fmt::Debug
     }
 }
 
+/// The text of a heartbeat's number has the word `heartbeat` before it.
+impl fmt::Display for RequestNumber {
+    fn fmt<W: fmt::Write>(&self, f: &mut fmt::Formatter<W>) -> fmt::Result {
+        match self {
+            RequestNumber::InFlight(number) => write!(f, "{number}"),
+            RequestNumber::Heartbeat(number) => write!(f, "heartbeat {number}"),
+        }
+    }
+}
+
 impl<L: fmt::Display, C: fmt::Display> fmt::Display for VoteRequest<L, C> {
     fn fmt<W: fmt::Write>(&self, f: &mut fmt::Formatter<W>) -> fmt::Result {
         let VoteRequest { vote, last_log_id } = self;
@@ -129,7 +162,7 @@ impl<L: fmt::Display, C: fmt::Display, NID: NodeId, N: Node, D> fmt::Display
     for AppendEntries<L, C, NID, N, D> {
     fn fmt<W: fmt::Write>(&self, f: &mut fmt::Formatter<W>) -> fmt::Result {
         let leader_id = &self.leader_id;
-        let request = DisplayOption(&self.request);
+        let request = &self.request;
         let prev = DisplayOption(&self.prev);
         let entries = self.entries.len();
         let committed = DisplayOption(&self.committed);
@@ -177,7 +210,6 @@ impl<L: fmt::Display, C: fmt::Display> fmt::Display for Response<L, C> {
             request,
             outcome,
         } = self;
-        let request = DisplayOption(request);
         write!(f, "response {request}, leader {leader_id}, {outcome}")
     }
 }

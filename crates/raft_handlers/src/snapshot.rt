@@ -1,16 +1,17 @@
 //! A follower: a snapshot that a leader sends.
-ghost use Rattle.std.specs.Prelude.{◌≡◌, Ok, Some, false, true, IfOk, OnOk, OnErr};
+ghost use Rattle.std.specs.Prelude.{◌≡◌, Ok, false, true, IfOk, OnOk, OnErr};
 ghost use Rattle.std.specs.Set.{ClonesAreEqual};
 ghost use Rattle.raft_handlers.specs.Append.{IfHigherVote};
 ghost use Rattle.raft_handlers.specs.Follow.{heard, higher_vote_response, is_followed, vote_heard};
 ghost use Rattle.raft_handlers.specs.Snapshot.{install_refusal, snapshot_refusal, AnswersSnapshot, Installs, RefusedFor};
 ghost use Rattle.raft_handlers.specs.Written.{nothing_installed, WritesInstall, WritesSnapshot};
+ghost use Rattle.raft_handlers.specs.declared.message.RequestNumber.TheVariants.{InFlight};
 ghost use Rattle.raft_state.specs.SnapshotMeta.{IsSnapshotCopy};
 ghost use Rattle.raft_state.specs.raft_state.Sound.{IsSound};
 
 use crate::changes::SnapshotChanges;
 use crate::error::SnapshotError;
-use crate::message::{InstallSnapshot, Outcome, Response};
+use crate::message::{InstallSnapshot, Outcome, RequestNumber, Response};
 use crate::state::State;
 use crate::vote::follow;
 use raft_base::order::log_id_below;
@@ -38,11 +39,11 @@ pub fn handle_install_snapshot<
     requires clones_are_equal { ClonesAreEqual N.eq N.is_clone }
     ensures leader { IfOk result (λ made.
         made.0.leader_id ≡ L.committed request.now.leader_id) }
-    ensures request { IfOk result (λ made. made.0.request ≡ Some request.now.request) }
+    ensures request { IfOk result (λ made. made.0.request ≡ InFlight request.now.request) }
     ensures vote { state.new.vote ≡ vote_heard L.order request.now.leader_id state.old }
     ensures not_followed { let leader = L.committed request.now.leader_id in
         is_followed L.order request.now.leader_id state.old ≡ false → result
-        ≡ Ok (higher_vote_response leader (Some request.now.request) state.old, nothing_installed) }
+        ≡ Ok (higher_vote_response leader (InFlight request.now.request) state.old, nothing_installed) }
     ensures followed { IfOk result (λ made. IfHigherVote made.0.outcome
         (λ _. is_followed L.order request.now.leader_id state.old ≡ false)) }
     ensures answers { IfOk result (λ made. AnswersSnapshot L.Committed.Ord L.eq
@@ -58,7 +59,7 @@ pub fn handle_install_snapshot<
         IsSound L.Committed.eq L.Committed.cmp state.new }
 {
     let leader_id = L::to_committed(&request.leader_id);
-    let number = Some(request.request);
+    let number = RequestNumber::InFlight(request.request);
     let promised = *state.vote_ref();
     let Some(is_new) = follow(state, request.leader_id) else {
         let response = Response {

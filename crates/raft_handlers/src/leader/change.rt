@@ -102,9 +102,12 @@ impl<NID: NodeId, N: Node, C: Ord + Copy + Default + Debug + Drop + 'static> Lea
             return Err(ChangeError::Entry(ProposeError::NoNextIndex));
         }
         let stored = members.try_clone()?;
-        let followers = self.followers_over(members, last.next_index())?;
+        // A number that no heartbeat or request has, to the members that are new.
+        let number = self.last_request.saturating_add(1);
+        let followers = self.followers_over(members, last.next_index(), number)?;
         let entry = self.append_own(state, EntryPayload::Membership(stored))?;
         self.followers = followers;
+        self.last_request = number;
         Ok(entry)
     }
 
@@ -148,22 +151,23 @@ impl<NID: NodeId, N: Node, C: Ord + Copy + Drop> Leader<NID, N, C> {
 
     /// Returns what is known of the members of a membership once the log has this end: those who
     /// stay keep what is known of them, and nothing is known of the others. The requests to the
-    /// others are numbered after those that the leader has sent.
+    /// others are numbered after a number.
     fn followers_over(
         &self,
         members: Membership<NID, N>,
         end: u64,
+        number: u64,
     ) -> Result<Tracked<NID, N, ProgressEntryOf<C>, Option<LogIdOf<C>>>, AllocError>
         requires clones_are_equal { ClonesAreEqual N.eq N.is_clone }
         ensures members { IfOk result (λ made. (tracked_view made).membership ≡ members) }
-        ensures kept { IfOk result (λ made. KeepsValues NID.eq end
-            self.now.last_request self.now.followers (tracked_view made)) }
+        ensures kept { IfOk result (λ made. KeepsValues NID.eq end number self.now.followers
+            (tracked_view made)) }
         ensures default { IfOk result (λ made. (tracked_view made).progress.default_part ≡ None) }
         ensures ready { IfOk result (λ made. IsReady NID.eq NID.cmp (option_cmp (log_id_cmp C.cmp))
             (λ entry. entry.matching) (tracked_view made)) }
     {
         let unknown = ProgressEntryOf::<C>::empty(end);
-        let unknown = unknown.with_curr_inflight_id(self.last_request);
+        let unknown = unknown.with_curr_inflight_id(number);
         let mut followers = self.followers.try_clone()?;
         match followers.change_to(members, unknown) {
             Reply::Granted(_) => Ok(followers),

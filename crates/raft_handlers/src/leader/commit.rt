@@ -42,7 +42,8 @@ impl<NID: NodeId, N: Node, C: Ord + Copy + Drop> Leader<NID, N, C> {
     }
 
     /// Commits what a quorum of the membership has, if that is an entry of this leader's own and is
-    /// not committed yet. Returns whether something new is committed.
+    /// not committed yet. Returns the log id up to which the log is committed then, so what may be
+    /// applied, or `None` if nothing new is committed.
     ///
     /// An entry of an earlier leader is never committed by counting: the leader's own entry commits
     /// all before it. A refusal other than `OutOfMemory` shows a fault of a member or of the disk:
@@ -50,7 +51,7 @@ impl<NID: NodeId, N: Node, C: Ord + Copy + Drop> Leader<NID, N, C> {
     pub fn commit<I: Instant, L: Drop>(
         &self,
         state: &mut RaftStateIn<NID, N, I, L, C>,
-    ) -> Result<bool, CommitError>
+    ) -> Result<Option<LogIdOf<C>>, CommitError>
         ensures committed { IfOk result (Commits NID.eq C.Ord self.now state.old state.new) }
         ensures monotone { IsTrue (id_le C.cmp state.old.committed state.new.committed) }
         ensures refused { IfErr result (RefusesCommit C.Ord self.now state.old state.new) }
@@ -58,7 +59,7 @@ impl<NID: NodeId, N: Node, C: Ord + Copy + Drop> Leader<NID, N, C> {
     {
         let granted = self.granted();
         if !self.has_own_granted() || !log_id_below(state.committed, granted) {
-            return Ok(false);
+            return Ok(None);
         }
         if !state.is_logged(&granted) {
             return Err(CommitError::NotLogged);
@@ -67,7 +68,7 @@ impl<NID: NodeId, N: Node, C: Ord + Copy + Drop> Leader<NID, N, C> {
             return Err(CommitError::MembershipNotInOrder);
         }
         match state.update_committed(&granted) {
-            Ok(_before) => Ok(true),
+            Ok(_before) => Ok(granted),
             Err(_) => Err(CommitError::OutOfMemory),
         }
     }

@@ -4,7 +4,8 @@ ghost use Rattle.std.specs.Option.{option_map};
 ghost use Rattle.raft_base.specs.LogId.{id_le};
 ghost use Rattle.raft_handlers.specs.Compared.{compared};
 ghost use Rattle.raft_handlers.specs.Leadership.{IsFlushRefusal, WritesEntry, WritesMember, entry_of, flushed_entry, granted_by, is_leading};
-ghost use Rattle.raft_handlers.specs.Responses.{SendsNext, TakesResponse, after_conflict, after_response, as_refused, end_after, number_after};
+ghost use Rattle.raft_handlers.specs.Responses.{SendsNext, TakesResponse, after_conflict, after_match, after_outcome, after_response, as_refused, end_after, heartbeat_to, number_after};
+ghost use Rattle.raft_handlers.specs.declared.message.RequestNumber.TheVariants.{Heartbeat as HeartbeatNumber};
 ghost use Rattle.raft_progress.specs.tracked.Followers.{IsResponse, member_value};
 ghost use Rattle.raft_progress.specs.tracked.Tracked.{tracked_view};
 ghost use Rattle.raft_progress.specs.declared.entry.ProgressEntryOf.{ProgressEntryOf};
@@ -14,9 +15,11 @@ ghost use Rattle.raft_state.specs.raft_state.Valid.{none_or_logged};
 
 use super::Leader;
 use crate::error::{FlushError, ResponseError};
-use crate::message::{Outcome, Response};
+use crate::message::{Heartbeat, Outcome, RequestNumber, Response};
 use crate::state::State;
-use raft_base::{Instant, LeaderIdentity, LogIdOf, LogIdOptionExt, LogStateReader, Node, NodeId};
+use raft_base::{
+    Instant, LeaderIdentity, LogIdOf, LogIdOptionExt, LogStateReader, Node, NodeId, log_id_below,
+};
 use raft_progress::{InflightError, InflightOf, Progress, ProgressEntryOf, Tracked};
 use raft_state::RaftStateIn;
 use raft_state::laws::sends_from_log;
@@ -33,8 +36,8 @@ impl<NID: NodeId, N: Node, C: Ord + Copy + Drop> Leader<NID, N, C> {
     /// lost, others follow.
     ///
     /// `InflightOf::None` means that there is nothing to send, that something is in flight already,
-    /// or that a send is not allowed (`can_send`): send a heartbeat. The result is `None` if the id
-    /// is no member's.
+    /// or that a send is not allowed (`can_send`): send a heartbeat, which `heartbeat` returns. The
+    /// result is `None` if the id is no member's.
     pub fn next_request<I: Instant, L: Drop>(
         &mut self,
         state: &RaftStateIn<NID, N, I, L, C>,
@@ -51,13 +54,37 @@ impl<NID: NodeId, N: Node, C: Ord + Copy + Drop> Leader<NID, N, C> {
         sending
     }
 
+    /// Returns what a heartbeat to a member says, or `None` if the id is no member's. It may be sent
+    /// at any time, and is not in flight.
+    ///
+    /// It asks whether the member has the last log id that it may have, so a member that has the
+    /// whole log says so. The response counts until the next request is sent to the member.
+    pub fn heartbeat<I: Instant, L: Drop>(
+        &self,
+        state: &RaftStateIn<NID, N, I, L, C>,
+        to: &NID,
+    ) -> Option<Heartbeat<C>>
+        ensures { result ≡ option_map (heartbeat_to (log_view_of state.now))
+            (entry_of NID.eq self.now to.now) }
+    {
+        match self.followers.progress().try_get(to) {
+            Some(entry) => Some(Heartbeat {
+                request: RequestNumber::Heartbeat(entry.curr_inflight_id),
+                prev: state.prev_log_id(entry.searching_end),
+            }),
+            None => None,
+        }
+    }
+
     /// Takes a member's response to a request. An acknowledgement raises the member's match. A
     /// conflict lowers the end of the search for it, to where the member's log ends if that is
-    /// lower. A response that is late, doubled or does not fit what is in flight is refused and
-    /// changes nothing, and so is a response to another leader.
+    /// lower. The response to a heartbeat does the same. If it raises the match, what is in flight
+    /// is dropped, because the member has it.
     ///
-    /// A node that is elected again numbers its requests anew. So the leader id of a response, and
-    /// not its number alone, says which request it answers.
+    /// A response that is late, doubled or does not fit what is in flight is refused and changes
+    /// nothing, and so is a response to another leader. A node that is elected again numbers its
+    /// requests anew. So the leader id of a response, and not its number alone, says which request
+    /// it answers.
     pub fn handle_response<L>(
         &mut self,
         from: &NID,
@@ -165,16 +192,89 @@ fn take_response<NID: NodeId, N: Node, L, C: Ord + Copy>(
     ensures monotone { IsTrue (id_le C.cmp (tracked_view followers.old).progress.granted
         (tracked_view followers.new).progress.granted) }
 {
+    let number = match response.request {
+        RequestNumber::InFlight(number) => number,
+        RequestNumber::Heartbeat(number) => {
+            return take_heartbeat(followers, from, number, &response.outcome);
+        }
+    };
     match response.outcome {
-        Outcome::Matches(upto) => match response.request {
-            Some(request) => refuse(followers.acknowledge(from, request, upto)),
-            None => if_known(followers, from, Ok(())),
-        },
+        Outcome::Matches(upto) => refuse(followers.acknowledge(from, number, upto)),
         Outcome::Conflict { index, last } => {
-            refuse(take_conflict(followers, from, response.request, index, last))
+            refuse(take_conflict(followers, from, Some(number), index, last))
         }
         Outcome::HigherVote(_) => if_known(followers, from, Err(ResponseError::HigherVote)),
     }
+}
+
+/// Takes the response to a heartbeat with a number into what is known of its sender, unless it is
+/// late. The result is `None` for an unknown sender.
+// Not inlined, because most responses are to requests in flight.
+#[inline(never)]
+fn take_heartbeat<NID: NodeId, N: Node, L, C: Ord + Copy>(
+    followers: &mut Tracked<NID, N, ProgressEntryOf<C>, Option<LogIdOf<C>>>,
+    from: &NID,
+    number: u64,
+    outcome: &Outcome<L, C>,
+) -> Option<Result<(), ResponseError>>
+    ensures step { IsResponse (member_value NID.eq (tracked_view followers.old) from.now)
+        (λ entry. after_outcome C.cmp entry (HeartbeatNumber number) outcome.now)
+        (λ next. WritesMember NID.eq (tracked_view followers.old) from.now next
+        (tracked_view followers.new))
+        (tracked_view followers.old) result (tracked_view followers.new) }
+    ensures default { (tracked_view followers.new).progress.default_part
+        ≡ (tracked_view followers.old).progress.default_part }
+    ensures monotone { IsTrue (id_le C.cmp (tracked_view followers.old).progress.granted
+        (tracked_view followers.new).progress.granted) }
+{
+    let last = match followers.progress().try_get(from) {
+        Some(entry) => entry.curr_inflight_id,
+        None => return None,
+    };
+    match *outcome {
+        Outcome::HigherVote(_) => Some(Err(ResponseError::HigherVote)),
+        _ if last != number => Some(Err(ResponseError::LateHeartbeat)),
+        Outcome::Matches(upto) => refuse(take_match(followers, from, upto)),
+        Outcome::Conflict { index, last } => {
+            refuse(take_conflict(followers, from, None, index, last))
+        }
+    }
+}
+
+/// Takes a match up to a log id, if it is past what is known of the member: nothing is in flight to
+/// it then.
+fn take_match<NID: NodeId, N: Node, C: Ord + Copy>(
+    followers: &mut Tracked<NID, N, ProgressEntryOf<C>, Option<LogIdOf<C>>>,
+    from: &NID,
+    upto: Option<LogIdOf<C>>,
+) -> Option<Result<(), InflightError>>
+    ensures step { IsResponse (member_value NID.eq (tracked_view followers.old) from.now)
+        (λ entry. after_match C.cmp entry upto)
+        (λ next. WritesMember NID.eq (tracked_view followers.old) from.now next
+        (tracked_view followers.new))
+        (tracked_view followers.old) result (tracked_view followers.new) }
+    ensures default { (tracked_view followers.new).progress.default_part
+        ≡ (tracked_view followers.old).progress.default_part }
+    ensures monotone { IsTrue (id_le C.cmp (tracked_view followers.old).progress.granted
+        (tracked_view followers.new).progress.granted) }
+{
+    let Some(found) = followers.progress().try_get(from).copied() else {
+        return None;
+    };
+    if !log_id_below(found.matching, upto) {
+        return Some(Ok(()));
+    }
+    if !upto.has_next_index() {
+        return Some(Err(InflightError::IndexTooLarge));
+    }
+    let entry = ProgressEntryOf {
+        matching: upto,
+        inflight: InflightOf::None,
+        searching_end: found.searching_end.max(upto.next_index()),
+        ..found
+    };
+    let _reply = followers.update(from, entry);
+    Some(Ok(()))
 }
 
 /// Takes a conflict: the search ends at its index, or where the member's log ends. A hint that
