@@ -6,7 +6,7 @@ use Rattle.std.specs.Ordering.{is_le, is_lt, ordering_reverse}
 use Rattle.std.specs.declared.cmp.Ordering.{Ordering}
 use Rattle.std.specs.declared.cmp.Ordering.TheVariants.{Less, Equal, Greater}
 use Rattle.std.proofs.Common.{ap, subst, sym, ◌∙◌, true≢false}
-use Rattle.raft_base.specs.LogId.{id_le, log_id_cmp}
+use Rattle.raft_base.specs.LogId.{id_le, id_lt, log_id_cmp}
 use Rattle.raft_base.specs.LogIdLawful.{optional-log_id_cmp-total}
 use Rattle.raft_base.specs.declared.log_id.LogIdOf.{LogIdOf}
 use Rattle.raft_progress.specs.progress.ProgressView.{state}
@@ -38,6 +38,15 @@ not_up_to : (r : Ordering) → is_le r ≡ false → is_lt (ordering_reverse r) 
 not_up_to Less e = absurd (true≢false e)
 not_up_to Equal e = absurd (true≢false e)
 not_up_to Greater e = refl
+
+below : (r : Ordering) → is_lt r ≡ true → is_le r ≡ true
+below Less e = refl
+below Equal e = absurd (true≢false (sym e))
+below Greater e = absurd (true≢false (sym e))
+
+-- a log id that is below another one is at most that
+pub at_most_if_below : {C : Type 0} (cmp : C → C → Ordering) (a b : Option (LogIdOf C)) → id_lt cmp a b ≡ true → id_le cmp a b ≡ true
+at_most_if_below cmp a b = below (option_cmp (log_id_cmp cmp) a b)
 
 module _ {C : Type 0} {cmp : C → C → Ordering} (total : IsTotalOrder cmp) where
   -- each log id is at most itself

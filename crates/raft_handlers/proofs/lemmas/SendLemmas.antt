@@ -1,5 +1,5 @@
 -- What a request to a member, and a response of it, make of what a leader knows of it.
-use Rattle.std.specs.Prelude.{◌≡◌, ℕ, Bool, true, false, if◌then◌else◌, Option, Some, None, Result, Ok, Err, IsOk, OnErr, refl, option_map}
+use Rattle.std.specs.Prelude.{◌≡◌, ℕ, nat_eq, Bool, true, false, if◌then◌else◌, Option, Some, None, Result, Ok, Err, IsOk, OnErr, refl, option_map}
 use Rattle.std.specs.Cmp.{IsEquivalence, IsTotalOrder}
 use Rattle.std.specs.Map.{update}
 use Rattle.std.specs.Result.{result_unwrap_or}
@@ -22,11 +22,14 @@ use Rattle.raft_handlers.specs.Responses.{
   after_outcome,
   as_refused,
   end_after,
+  unless_late,
   with_hint,
 }
 use Rattle.raft_handlers.specs.declared.error.ResponseError.{ResponseError}
-use Rattle.raft_handlers.specs.declared.error.ResponseError.TheVariants.{HigherVote}
+use Rattle.raft_handlers.specs.declared.error.ResponseError.TheVariants.{HigherVote, LateHeartbeat}
 use Rattle.raft_handlers.specs.declared.message.Outcome.TheVariants.{Conflict, HigherVote as RefusedFor}
+use Rattle.raft_handlers.specs.declared.message.RequestNumber.{RequestNumber}
+use Rattle.raft_handlers.specs.declared.message.RequestNumber.TheVariants.{Heartbeat, InFlight}
 use Rattle.raft_handlers.proofs.lemmas.FollowerLemmas.{id_le-refl}
 
 -- ---- responses, by their results
@@ -86,35 +89,33 @@ pub on_err : {U E : Type 0} (r : Result U E) (P Q : Type 0) → (P → Q) → On
 on_err (Ok u) P Q f p = tt
 on_err (Err e) P Q f p = f p
 
--- a conflict, with a request or without one
-pub conflict_table : {C : Type 0} (L : Type 0) (cmp : C → C → Ordering) (entry : ProgressEntryOf C) (request : Option ℕ) (index : ℕ)
-    (last : Option ℕ)
-    → after_outcome {L = L} cmp entry request (Conflict index last) ≡ as_refused (after_conflict entry request index last)
-conflict_table L cmp entry (Some r) index last = refl
-conflict_table L cmp entry None index last = refl
-
--- a higher vote, with a request or without one
-pub vote_table : {L C : Type 0} (cmp : C → C → Ordering) (entry : ProgressEntryOf C) (request : Option ℕ) (vote : _)
+-- a higher vote, in the response to a request in flight or to a heartbeat
+pub vote_table : {L C : Type 0} (cmp : C → C → Ordering) (entry : ProgressEntryOf C) (request : RequestNumber) (vote : _)
     → after_outcome {L = L} cmp entry request (RefusedFor vote) ≡ Err HigherVote
-vote_table cmp entry (Some r) vote = refl
-vote_table cmp entry None vote = refl
+vote_table cmp entry (InFlight n) vote = refl
+vote_table cmp entry (Heartbeat n) vote = refl
 
 -- a response whose refusals are taken as a leader's
 pub refused_response : {V U S : Type 0} (value : Option V) (table : V → Result V InflightError) (table' : V → Result V ResponseError)
-    (Writes Writes' : V → Type 0) (old new : S) → ((entry : V) → table' entry ≡ as_refused (table entry))
+    (Writes Writes' : V → Type 0) (old new : S)
+    → ((entry : V) → value ≡ Some entry → table' entry ≡ as_refused (table entry))
     → ((entry next : V) → value ≡ Some entry → Writes next → Writes' next) → (r : Option (Result U InflightError))
     → IsResponse value table Writes old r new → IsResponse value table' Writes' old (option_map as_refused r) new
 refused_response value table table' Writes Writes' old new same w (Some (Ok u)) s =
-    (s.0, s.1, s.2, same s.0 ∙ ap as_refused s.3, w s.0 s.1 s.2 s.4)
-refused_response value table table' Writes Writes' old new same w (Some (Err e)) s = (s.0, s.1, same s.0 ∙ ap as_refused s.2, s.3)
+    (s.0, s.1, s.2, same s.0 s.2 ∙ ap as_refused s.3, w s.0 s.1 s.2 s.4)
+refused_response value table table' Writes Writes' old new same w (Some (Err e)) s =
+    (s.0, s.1, same s.0 s.1 ∙ ap as_refused s.2, s.3)
 refused_response value table table' Writes Writes' old new same w None s = s
 
--- an answer to a member that is known
-pub answers_known : {V E U S : Type 0} (value : Option V) (table : V → Result V E) (Writes : V → Type 0) (old : S) (u : U)
-    → ((entry : V) → table entry ≡ Ok entry) → ((entry : V) → value ≡ Some entry → Writes entry)
-    → IsResponse value table Writes old (option_map (λ (e : V). Ok u) value) old
-answers_known (Some entry) table Writes old u same w = (entry, entry, refl, same entry, w entry refl)
-answers_known None table Writes old u same w = (refl, refl)
+-- the response to a heartbeat of a member with another number is late
+pub late_table : {S C : Type 0} (entry found : ProgressEntryOf C) (number : ℕ) (response : Result S InflightError)
+    → entry ≡ found → nat_eq found.curr_inflight_id number ≡ false → unless_late entry number response ≡ Err LateHeartbeat
+late_table entry found number response same other = rw (same, other) refl
+
+-- and one with its number is not
+pub timely_table : {S C : Type 0} (entry found : ProgressEntryOf C) (number : ℕ) (response : Result S InflightError)
+    → entry ≡ found → nat_eq found.curr_inflight_id number ≡ true → unless_late entry number response ≡ as_refused response
+timely_table entry found number response same own = rw (same, own) refl
 
 -- a refusal to a member that is known
 pub refuses_known : {V E S : Type 0} (U : Type 0) (value : Option V) (table : V → Result V E) (Writes : V → Type 0) (old : S) (e : E)

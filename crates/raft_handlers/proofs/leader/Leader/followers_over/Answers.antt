@@ -26,6 +26,6 @@ returns-in-Granted-clause-kept g c =
           begins_value eq _ _ _ _ (λ v w is. is) old clone new c.args.members unknown _ c.in-Granted.ensures.step
           c.in_ok-followers.ensures.progress id entry none some
           ∙ c.with_curr_inflight_id-unknown.ensures
-          ∙ ap (λ (e : ProgressEntryOf g.row.C.Denot). record e { curr_inflight_id = c.self.inside.last_request })
+          ∙ ap (λ (e : ProgressEntryOf g.row.C.Denot). record e { curr_inflight_id = c.args.number })
           c.empty-unknown.ensures;
     })

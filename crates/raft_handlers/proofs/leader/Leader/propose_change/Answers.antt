@@ -13,7 +13,8 @@ use Rattle.raft_progress.specs.tracked.Tracked.{tracked_view}
 use Rattle.raft_state.specs.declared.entry.EntryOf.{EntryOf}
 use Rattle.raft_state.specs.membership_state.Apply.{members_after_change}
 use Rattle.raft_state.specs.membership_state.Memberships.{in_effect}
-use Rattle.raft_handlers.specs.Changes.{KeepsValues}
+use Rattle.raft_handlers.specs.Changes.{KeepsValues, number_past}
+use Rattle.raft_handlers.specs.Leadership.{Leadership}
 use Rattle.raft_handlers.proofs.lemmas.ChangeLemmas.{effective_configs, own_payload, refuses_entry, stores_copy}
 use Rattle.raft_handlers.proofs.lemmas.KnownLemmas.{changed_configs, quorums_still_know}
 use Rattle.raft_handlers.proofs.leader.Leader.propose_change.Goals as goal
@@ -30,6 +31,8 @@ returns-clause-appended g c =
     let committed = rw c.change_handler-handler.ensures at c.in-Ok.ensures.committed in
     let says = rw c.change_handler-handler.ensures at c.in-Ok.ensures.changed in
     let kept = rw (← c.self.view_is) at c.in_ok-followers.ensures.kept in
+    let number : c.saturating_add-number.result ≡ number_past c.args.self.now.last_request =
+    c.saturating_add-number.ensures ∙ ap (λ (l : Leadership _ _ _). number_past l.last_request) c.self.view_is in
     record {
       own_granted = sym c.has_own_granted.ensures ∙ c.if-not-has_own_granted.false;
       committed = committed;
@@ -43,8 +46,9 @@ returns-clause-appended g c =
       counted = rw c.in_ok-followers.ensures.members (sym (c.in_ok-stored.ensures.configs)
           ∙ sym (effective_configs eq g.N.PartialEq.eq _ c.in_ok-stored.stored
           c.args.state.now.membership_state c.append_own.new.state.membership_state own.memberships));
-      kept = subst (λ (i : ℕ). KeepsValues eq i c.args.self.now.last_request c.args.self.now.followers new)
-          (c.next_index.ensures ∙ ap next_index (c.copied-last.ensures ∙ c.last_log_id.ensures)) c.in_ok-followers.ensures.kept;
+      kept = subst (λ (i : ℕ). KeepsValues eq i (number_past c.args.self.now.last_request) c.args.self.now.followers new)
+          (c.next_index.ensures ∙ ap next_index (c.copied-last.ensures ∙ c.last_log_id.ensures))
+          (subst (λ (n : ℕ). KeepsValues eq c.next_index.result n c.args.self.now.followers new) number c.in_ok-followers.ensures.kept);
       still_known = λ some same.
           let some' : 0 < length old.membership.configs = rw (← c.self.view_is) at some in
           let same' : old.membership.configs ≡ (in_effect c.args.state.now.membership_state).configs =
@@ -59,7 +63,7 @@ returns-clause-appended g c =
           (sym configs) (c.quorums_know_granted.ensures.changed_quorums some' c.args.change c.args.retain) in
           rw (← c.self.view_is) (quorums_still_know g.met.NID.Eq.laws id_cmp by (λ (e : ProgressEntryOf g.row.C.Denot). e.matching)
           old new granted c.in_ok-followers.ensures.ready knows kept.kept);
-      node = rw (← c.self.view_is) refl;
+      node = rw (← number, ← c.self.view_is) refl;
     }
 
 pub returns-in_err-entry-clause-refused : goal.returns-in_err-entry-clause-refused

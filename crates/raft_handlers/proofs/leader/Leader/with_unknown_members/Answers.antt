@@ -2,7 +2,8 @@ use Rattle.std.proofs.Common.{◌≡◌, ap, refl, rules, ◌∙◌}
 use Rattle.raft_members.specs.membership.Stored.{membership_of}
 use Rattle.raft_members.specs.quorum.Majority.{is_voter_of}
 use Rattle.raft_progress.specs.tracked.Tracked.{tracked_view}
-use Rattle.raft_handlers.specs.Leadership.{unknown_entry}
+use Rattle.raft_handlers.specs.Leadership.{new_entry}
+use Rattle.raft_progress.specs.declared.entry.ProgressEntryOf.{ProgressEntryOf}
 use Rattle.raft_handlers.proofs.lemmas.TrackedLemmas.{begins_with_default, voter_known}
 use Rattle.raft_handlers.proofs.leader.Leader.with_unknown_members.Goals as goal
 
@@ -15,14 +16,16 @@ returns g c =
       begins = record {
         node = search rules;
         leader = search rules;
-        no_request = refl;
+        numbered = refl;
         members = search rules;
         configs = counted;
         voters_counted = λ x votes.
             voter_known eq _ _ _ made c.in_ok-followers.ensures.ready x (ap (λ cs. is_voter_of eq cs x) counted ∙ votes);
         entries = λ x entry known.
-            begins_with_default eq _ _ _ _ c.empty.result made
+            begins_with_default eq _ _ _ _ c.with_curr_inflight_id-unknown.result made
             c.in_ok-followers.ensures.progress x entry known
-            ∙ c.empty.ensures ∙ ap unknown_entry c.requires.end;
+            ∙ c.with_curr_inflight_id-unknown.ensures
+            ∙ ap (λ (e : ProgressEntryOf g.row.C.Denot). record e { curr_inflight_id = c.args.last_request }) c.empty-unknown.ensures
+            ∙ ap (λ end. new_entry end c.args.last_request) c.requires.end;
       };
     }
