@@ -149,17 +149,19 @@ abbrev pub may_cut_at : {K N I L C : Type 0} → (C → C → Ordering) → Opti
 may_cut_at cmp None s = true
 may_cut_at cmp (Some id) s = may_cut cmp id.index s
 
--- a request to append entries may be taken: if the log does not have `prev`, it may be truncated
--- there; otherwise the entries are in order after `prev`, the new ones may take the place of the end
--- of the log, and the lesser one of the leader's committed log id and the last one may be committed
+-- a request to append entries may be taken:
+-- - the entries are in order after `prev`;
+-- - if the log has `prev`, the new entries may take the place of the end of the log, and the lesser
+--   one of the leader's committed log id and the last one may be committed;
+-- - otherwise the log may be truncated at the index of `prev`.
 abbrev pub may_take : {K N I L C D : Type 0} → (C → C → Bool) → (C → C → Ordering)
     → Option (LogIdOf C) → List (EntryOf C K N D) → Option (LogIdOf C) → RaftStateIn K N I L C → Bool
 may_take eq cmp prev es committed s =
-    if purged_or_logged eq s prev
-    then are_in_order cmp prev es
-    && may_take_new eq cmp (entries_to_append eq s es)
+    are_in_order cmp prev es
+    && (if purged_or_logged eq s prev
+    then may_take_new eq cmp (entries_to_append eq s es)
     (lesser_id cmp committed (last_id_of_request prev es)) s
-    else may_cut_at cmp prev s
+    else may_cut_at cmp prev s)
 
 -- the tests of entries after a log id that the log has, and of a log id that is to be committed with
 -- them
@@ -174,12 +176,16 @@ take_tests eq cmp prev es id s = record tests_hold {
   has = has_committed_with eq cmp (full_log s.log_ids) s.committed (entries_to_append eq s es) id;
 }
 
--- the tests of a request to append entries: of its entries, or that the log may be truncated at `prev`
+-- the tests of a request to append entries, by whether the log has `prev`: if it has not, the entries
+-- are in order, and the log may be truncated at the index of `prev`
 abbrev pub append_tests : {K N I L C D : Type 0} → Bool → (C → C → Bool) → (C → C → Ordering)
     → Option (LogIdOf C) → List (EntryOf C K N D) → Option (LogIdOf C) → RaftStateIn K N I L C
     → TakeTests
 append_tests true eq cmp prev es id s = take_tests eq cmp prev es id s
-append_tests false eq cmp prev es id s = record tests_hold { keeps = may_cut_at cmp prev s }
+append_tests false eq cmp prev es id s = record tests_hold {
+  keeps = may_cut_at cmp prev s;
+  order = are_in_order cmp prev es;
+}
 
 -- the log has a log id `prev` and each of these entries:
 -- - the entries are in order after `prev`, what is new of them could replace the end of the log, and
@@ -208,9 +214,10 @@ pub record Took {K N I L C D : Type 0} (ord : OrdMembers C) (id_eq : K → K →
   pub has_committed : IsTrue (id_lt ord.cmp old.committed id)
       → IsTrue (has_id ord.eq (full_log new.log_ids) id)
 
--- the log did not have `prev`, and was truncated at its index
-pub record CutAt {K N I L C : Type 0} (ord : OrdMembers C) (at : ℕ) (prev : Option (LogIdOf C))
-    (old new : RaftStateIn K N I L C) : Type 0 where
+-- the entries are in order; the log did not have `prev`, and was truncated at its index
+pub record CutAt {K N I L C D : Type 0} (ord : OrdMembers C) (at : ℕ) (prev : Option (LogIdOf C))
+    (es : List (EntryOf C K N D)) (old new : RaftStateIn K N I L C) : Type 0 where
+  pub in_order : IsTrue (are_in_order ord.cmp prev es)
   pub conflict : IsConflict ord.eq at prev old
   pub may : IsTrue (may_cut ord.cmp at old)
   pub truncated : full_log new.log_ids ≡ front (full_log old.log_ids) at
@@ -226,7 +233,8 @@ Answers ord id_eq same request (Matches upto) old new =
     × Took ord id_eq same request.prev request.entries.items
     (lesser_id ord.cmp request.committed (last_id_of_request request.prev request.entries.items)) old new
 Answers ord id_eq same request (Conflict at last) old new =
-    CutAt ord at request.prev old new × (last ≡ index_of (last_id (full_log new.log_ids)))
+    CutAt ord at request.prev request.entries.items old new
+    × (last ≡ index_of (last_id (full_log new.log_ids)))
 Answers ord id_eq same request (HigherVote vote) old new = (vote ≡ vote_of old) × (new ≡ old)
 
 -- the log had `prev`, the entries are in order, and what is new of them truncates nothing committed

@@ -3,8 +3,10 @@ ghost use Rattle.std.specs.Prelude.{◌≡◌, ◌≤◌, length, false, Ok, IsT
 ghost use Rattle.std.specs.List.{prefix_len};
 ghost use Rattle.std.specs.Set.{ClonesAreEqual};
 ghost use Rattle.raft_handlers.specs.Append.{has_entry, lesser_id, take_tests, Answers, IfHigherVote, IsConflict, Refused, Refuses, Took};
+ghost use Rattle.raft_handlers.specs.Entries.{are_in_order};
 ghost use Rattle.raft_handlers.specs.Follow.{higher_vote_response, is_followed, vote_heard};
 ghost use Rattle.raft_handlers.specs.Honest.{IsHonest};
+ghost use Rattle.raft_handlers.specs.Inner.Log.{are_plain};
 ghost use Rattle.raft_handlers.specs.Written.{no_changes, Writes, WritesLog};
 ghost use Rattle.raft_handlers.specs.declared.error.AppendError.TheVariants.{OutOfMemory};
 ghost use Rattle.raft_handlers.specs.declared.message.Outcome.TheVariants.{Matches};
@@ -21,9 +23,10 @@ use raft_base::order::{log_id_below, same_optional_log_ids};
 use raft_base::{Instant, LeaderIdentity, LogIdOf, LogIdOptionExt, LogStateReader, Node, NodeId};
 use raft_state::{EntryOf, RaftStateIn, VoteStateReader};
 
-/// Handles a leader's request to append entries. It promises the leader's vote, truncates what
-/// conflicts with the entries, appends what is new, and commits the lesser one of the leader's
-/// committed log id and the last log id of the request.
+/// Handles a leader's request to append entries. It promises the leader's vote, refuses entries
+/// that are not in order after `prev`, truncates what conflicts with the request, appends what is
+/// new, and commits the lesser one of the leader's committed log id and the last log id of the
+/// request.
 ///
 /// Returns the response, and what has changed. Write that to disk before you answer, the vote first.
 ///
@@ -120,6 +123,11 @@ fn match_log<NID: NodeId, N: Node, I: Instant, L: Drop, C: Ord + Copy + Drop, D>
     } }
     ensures sound { IsSound C.eq C.cmp state.old → IsSound C.eq C.cmp state.new }
 {
+    let entries = request.entries.as_slice();
+    let plain = are_plain(entries);
+    if !are_in_order(request.prev, entries, plain) {
+        return Err(AppendError::NotInOrder);
+    }
     if let Some(at) = conflict_of(state, request.prev) {
         let truncated_from = cut(state, at)?;
         let changes = Changes {
@@ -132,7 +140,7 @@ fn match_log<NID: NodeId, N: Node, I: Instant, L: Drop, C: Ord + Copy + Drop, D>
         return Ok((Outcome::Conflict { index: at, last }, changes));
     }
     // A heartbeat that commits nothing more, as most do.
-    let has_none = request.entries.as_slice().is_empty();
+    let has_none = entries.is_empty();
     if has_none && same_optional_log_ids(request.committed, state.committed) {
         let changes = Changes {
             vote: false,
@@ -144,7 +152,7 @@ fn match_log<NID: NodeId, N: Node, I: Instant, L: Drop, C: Ord + Copy + Drop, D>
     }
     let last = request.last_log_id();
     let committed = lesser_id(request.committed, last);
-    let changes = take_entries(state, request.prev, &request.entries, committed)?;
+    let changes = take_entries(state, request, committed, plain)?;
     Ok((Outcome::Matches(last), changes))
 }
 
@@ -162,23 +170,26 @@ fn conflict_of<NID: NodeId, N: Node, I: Instant, L: Drop, C: Ord + Copy + Drop>(
     }
 }
 
-/// Takes entries after a log id that the log has: tests them by themselves, appends what is new,
-/// and commits up to a log id if that is past what is committed.
+/// Takes the entries of a request that are in order after a log id that the log has: appends what
+/// is new, and commits up to a log id if that is past what is committed.
 fn take_entries<NID: NodeId, N: Node, I: Instant, L: Drop, C: Ord + Copy + Drop, D>(
     state: &mut RaftStateIn<NID, N, I, L, C>,
-    prev: Option<LogIdOf<C>>,
-    entries: &[EntryOf<C, NID, N, D>],
+    request: &AppendEntries<L, C, NID, N, D>,
     committed: Option<LogIdOf<C>>,
+    plain: bool,
 ) -> Result<Changes<C>, AppendError>
     requires clones_are_equal { ClonesAreEqual N.eq N.is_clone }
-    requires prev { IsTrue (purged_or_logged C.eq state.old prev) }
-    ensures writes { IfOk result (λ changes. WritesLog C.Ord entries.now (Matches prev) changes
-        state.old state.new) }
-    ensures took { OnOk result
-        (Took C.Ord NID.eq N.eq prev entries.now committed state.old state.new) }
+    requires plain { IsTrue plain → IsTrue (are_plain C.eq request.now.entries.items) }
+    requires in_order { IsTrue
+        (are_in_order C.cmp request.now.prev request.now.entries.items) }
+    requires prev { IsTrue (purged_or_logged C.eq state.old request.now.prev) }
+    ensures writes { IfOk result (λ changes. WritesLog C.Ord request.now.entries.items
+        (Matches request.now.prev) changes state.old state.new) }
+    ensures took { OnOk result (Took C.Ord NID.eq N.eq request.now.prev
+        request.now.entries.items committed state.old state.new) }
     ensures refused { IfErr result (λ e. Refused C.Ord NID.eq N.eq
-        (take_tests C.eq C.cmp prev entries.now committed state.old) prev entries.now e
-        state.old state.new) }
+        (take_tests C.eq C.cmp request.now.prev request.now.entries.items committed state.old)
+        request.now.prev request.now.entries.items e state.old state.new) }
     ensures rest { state.new ≡ record state.old {
       log_ids = state.new.log_ids;
       membership_state = state.new.membership_state;
@@ -187,10 +198,7 @@ fn take_entries<NID: NodeId, N: Node, I: Instant, L: Drop, C: Ord + Copy + Drop,
     } }
     ensures sound { IsSound C.eq C.cmp state.old → IsSound C.eq C.cmp state.new }
 {
-    let plain = are_plain(entries);
-    if !are_in_order(prev, entries, plain) {
-        return Err(AppendError::NotInOrder);
-    }
+    let entries = request.entries.as_slice();
     let place = first_new(state, entries);
     let new = &entries[place..];
     let truncated_from = append_new(state, new, plain)?;

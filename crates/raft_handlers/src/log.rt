@@ -149,6 +149,7 @@ fn extend<NID: NodeId, N: Node, I: Instant, L: Drop, C: Ord + Copy + Drop, D>(
 
 /// Whether entries have consecutive indexes, are of one leader, and store no membership, as most
 /// do. Such entries may be appended wherever the first one may.
+#[inline(always)]
 pub(crate) fn are_plain<NID: NodeId, N: Node, C: Ord + Copy, D>(
     entries: &[EntryOf<C, NID, N, D>],
 ) -> bool
@@ -210,6 +211,7 @@ fn refusal<NID: NodeId, N: Node, I: Instant, L: Drop, C: Ord + Copy + Drop, D>(
 
 /// Whether entries have consecutive indexes after a log id, and their leaders never fall. If they
 /// are known to be plain, only the first one is tested.
+#[inline(always)]
 pub(crate) fn are_in_order<NID: NodeId, N: Node, C: Ord + Copy, D>(
     last: Option<LogIdOf<C>>,
     entries: &[EntryOf<C, NID, N, D>],
@@ -219,8 +221,9 @@ pub(crate) fn are_in_order<NID: NodeId, N: Node, C: Ord + Copy, D>(
     ensures { result ≡ are_in_order C.cmp last entries.now }
 {
     match entries.first() {
+        None => true,
         Some(first) if plain => is_successor(last, first.log_id),
-        _ => are_successors(last, entries),
+        Some(_) => are_successors(last, entries),
     }
 }
 

@@ -128,6 +128,22 @@ const ROWS: &[(&str, Sent, Answer<AppendError>, Written, Row, Row)] = &[
         FIRST,
     ),
     (
+        "the log has another log id at the index of prev, and the entries have a gap",
+        (3, Some((3, 3)), &[(3, 5)], None),
+        Answer::Refused(AppendError::NotInOrder),
+        NOTHING,
+        END,
+        FIRST,
+    ),
+    (
+        "the log has another log id at the index of prev, and the leaders of the entries fall",
+        (3, Some((3, 3)), &[(2, 4)], None),
+        Answer::Refused(AppendError::NotInOrder),
+        NOTHING,
+        END,
+        FIRST,
+    ),
+    (
         "what is committed conflicts with an entry",
         (3, Some((1, 0)), &[(3, 1)], None),
         Answer::Refused(AppendError::TruncatesCommitted),

@@ -51,7 +51,6 @@ use Rattle.raft_handlers.proofs.lemmas.EntryLemmas.{same_through}
 use Rattle.raft_handlers.specs.Append.{has_entry, last_id_of_request, lesser_id, may_cut_at, may_take, entries_to_append}
 use Rattle.raft_handlers.specs.Entries.{
   allows_commit,
-  are_in_order,
   effective_below,
   effective_with,
   ends_before as log_ends_before,
@@ -689,7 +688,9 @@ module _ {C : Type 0} (cmp : C → C → Ordering) (eq : C → C → Bool) (tota
 
       pub taken : (prev : Option (LogIdOf C)) (es : List (EntryOf C K N D)) (committed : Option (LogIdOf C))
           → IsPieceOf eq (full_log ks) prev es committed → may_take eq cmp prev es committed s ≡ true
-      taken prev es committed piece = by (purged_or_logged eq s prev) refl
+      taken prev es committed piece =
+          both_true (both_true (entries_follow ks keys prev es there piece.has_entries piece.consecutive) piece.consecutive)
+          (by (purged_or_logged eq s prev) refl)
         where
           cut : (o : Option (LogIdOf C)) → in_log eq (full_log ks) o ≡ true → purged_or_logged eq s o ≡ false
               → may_cut_at cmp o s ≡ true
@@ -700,8 +701,7 @@ module _ {C : Type 0} (cmp : C → C → Ordering) (eq : C → C → Bool) (tota
           there = as_in_log (full_log ks) prev piece.has_prev
 
           by : (t : Bool) → purged_or_logged eq s prev ≡ t
-              → (if t then are_in_order cmp prev es
-              && may_take_new eq cmp (entries_to_append eq s es) (lesser_id cmp committed (last_id_of_request prev es)) s
+              → (if t then may_take_new eq cmp (entries_to_append eq s es) (lesser_id cmp committed (last_id_of_request prev es)) s
               else may_cut_at cmp prev s) ≡ true
           by true h =
               let are_new : AreNew prev es =
@@ -709,7 +709,5 @@ module _ {C : Type 0} (cmp : C → C → Ordering) (eq : C → C → Bool) (tota
               let r = split prev es are_new in
               let last = last_in ks keys prev es there piece.has_entries in
               let id = least_in committed (last_id_of_request prev es) (as_in_log (full_log ks) committed piece.has_committed) last in
-              let follow = entries_follow ks keys prev es there piece.has_entries piece.consecutive in
-              both_true (both_true follow piece.consecutive)
-              (take_new r.0 (entries_to_append eq s es) (lesser_id cmp committed (last_id_of_request prev es)) r.1 r.2 id.0 (rw r.3 id.1))
+              take_new r.0 (entries_to_append eq s es) (lesser_id cmp committed (last_id_of_request prev es)) r.1 r.2 id.0 (rw r.3 id.1)
           by false h = cut prev there h

@@ -73,26 +73,29 @@ module _ {K N I L C D : Type 0} (eq : C → C → Bool) (cmp : C → C → Order
   pub taken_error : (committed : Option (LogIdOf C)) (e : AppendError) → may_take eq cmp prev es committed s ≡ true
       → RefusedUnless (append_tests (purged_or_logged eq s prev) eq cmp prev es (lesser_id cmp committed (last_id_of_request prev es)) s) e
       → e ≡ OutOfMemory
-  taken_error committed e may refused = by (purged_or_logged eq s prev) may refused
+  taken_error committed e may refused =
+      let id = lesser_id cmp committed (last_id_of_request prev es) in
+      let rest = if purged_or_logged eq s prev then may_take_new eq cmp (entries_to_append eq s es) id s else may_cut_at cmp prev s in
+      let both = and_parts (are_in_order cmp prev es) rest may in
+      by both.0 (purged_or_logged eq s prev) both.1 refused
     where
-      by : (t : Bool) → (if t then are_in_order cmp prev es
-          && may_take_new eq cmp (entries_to_append eq s es) (lesser_id cmp committed (last_id_of_request prev es)) s
+      by : are_in_order cmp prev es ≡ true → (t : Bool)
+          → (if t then may_take_new eq cmp (entries_to_append eq s es) (lesser_id cmp committed (last_id_of_request prev es)) s
           else may_cut_at cmp prev s) ≡ true
           → RefusedUnless (append_tests t eq cmp prev es (lesser_id cmp committed (last_id_of_request prev es)) s) e → e ≡ OutOfMemory
-      by true h r =
+      by in_order true h r =
           let new = entries_to_append eq s es in
           let id = lesser_id cmp committed (last_id_of_request prev es) in
           let order = are_in_order cmp (last_before new s) new in
           let members = has_memberships_in_order cmp (effective_before new s) new in
           let effective = effective_with (effective_before new s) new in
           let commit = may_commit_with eq cmp (full_log s.log_ids) effective new s.committed id in
-          let a = and_parts (are_in_order cmp prev es) (may_take_new eq cmp new id s) h in
-          let b = and_parts (keeps_committed cmp new s) (order && members && commit) a.1 in
+          let b = and_parts (keeps_committed cmp new s) (order && members && commit) h in
           let d = and_parts (order && members) commit b.1 in
           let f = and_parts order members d.0 in
           let m = may_commit_parts eq cmp (full_log s.log_ids) effective s.committed id new d.1 in
           only_memory e (refused_unless_more (take_tests eq cmp prev es id s) tests_hold
-          (λ k. sym b.0 ∙ k) (λ k. sym (both_true a.0 f.0) ∙ k) (λ k. sym (both_true f.1 m.1) ∙ k) (λ k. sym m.0 ∙ k) e r)
-      by false h r =
-          only_memory e (refused_unless_more (record tests_hold { keeps = may_cut_at cmp prev s }) tests_hold
-          (λ k. sym h ∙ k) (λ k. k) (λ k. k) (λ k. k) e r)
+          (λ k. sym b.0 ∙ k) (λ k. sym (both_true in_order f.0) ∙ k) (λ k. sym (both_true f.1 m.1) ∙ k) (λ k. sym m.0 ∙ k) e r)
+      by in_order false h r =
+          only_memory e (refused_unless_more (append_tests false eq cmp prev es (lesser_id cmp committed (last_id_of_request prev es)) s)
+          tests_hold (λ k. sym h ∙ k) (λ k. sym in_order ∙ k) (λ k. k) (λ k. k) e r)

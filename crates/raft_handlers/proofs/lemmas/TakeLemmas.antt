@@ -250,14 +250,18 @@ module _ {K N I L C D : Type 0} (ord : OrdMembers C) (id_eq : K → K → Bool) 
   nothing_left = record { log = refl; memberships = refl; accepted = refl }
 
   -- entries that are not in order are refused before anything changes
-  pub disorder_refused : are_in_order ord.cmp prev es ≡ false
-      → Refused ord id_eq same (take_tests ord.eq ord.cmp prev es id old) prev es NotInOrder old old
+  pub disorder_refused : are_in_order ord.cmp prev es ≡ false → Refused ord id_eq same
+      (append_tests (purged_or_logged ord.eq old prev) ord.eq ord.cmp prev es id old) prev es NotInOrder old old
   disorder_refused h = record {
-    reason = rw h refl;
+    reason = by (purged_or_logged ord.eq old prev);
     kept = kept_itself (replaced_since (full_log old.log_ids) (entries_to_append ord.eq old es));
     left = inl nothing_left;
     rest = refl;
   }
+    where
+      by : (has : Bool) → RefusedUnless (append_tests has ord.eq ord.cmp prev es id old) NotInOrder
+      by true = rw h refl
+      by false = h
 
   -- the entries after those that the log had
   module _ (n : ℕ) (is : n ≡ prefix_len (has_entry ord.eq old) es) (has : purged_or_logged ord.eq old prev ≡ true)
@@ -379,9 +383,11 @@ take_rest {K} {N} {I} {L} {C} old mid new first later =
     record s { committed = new.committed; membership_state = new.membership_state }) first))
 
 -- a log that conflicts is cut at the index of `prev`, or that is refused
-pub conflict_cut : {K N I L C : Type 0} (ord : OrdMembers C) (at : ℕ) (prev : Option (LogIdOf C)) (old new : RaftStateIn K N I L C)
-    → IsConflict ord.eq at prev old → IsCut ord at old new → CutAt ord at prev old new
-conflict_cut ord at prev old new conflict was_cut = record {
+pub conflict_cut : {K N I L C D : Type 0} (ord : OrdMembers C) (at : ℕ) (prev : Option (LogIdOf C)) (es : List (EntryOf C K N D))
+    (old new : RaftStateIn K N I L C) → are_in_order ord.cmp prev es ≡ true → IsConflict ord.eq at prev old → IsCut ord at old new
+    → CutAt ord at prev es old new
+conflict_cut ord at prev es old new order conflict was_cut = record {
+  in_order = order;
   conflict = conflict;
   may = was_cut.keeps;
   truncated = was_cut.log;
@@ -402,7 +408,9 @@ pub conflict_refused : {K N I L C D : Type 0} (ord : OrdMembers C) (id_eq : K �
     → Refused ord id_eq same (append_tests (purged_or_logged ord.eq old prev) ord.eq ord.cmp prev es id old) prev es e old new
 conflict_refused ord id_eq same eqs prev es id old new at e conflict stays why =
     rw (stays, conflict.1) (record {
-      reason = rw (← cut_is ord.cmp at prev old conflict.0) why;
+      reason = refused_unless_more (record tests_hold { keeps = may_cut ord.cmp at old })
+          (append_tests false ord.eq ord.cmp prev es id old) (λ h. sym (cut_is ord.cmp at prev old conflict.0) ∙ h)
+          (λ h. absurd (true≢false h)) (λ h. h) (λ h. h) e why;
       kept = kept_itself ord id_eq same eqs prev es id old (replaced_since (full_log old.log_ids) (entries_to_append ord.eq old es));
       left = inl (nothing_left ord id_eq same eqs prev es id old);
       rest = refl;
@@ -421,9 +429,10 @@ matched_refused ord id_eq same prev es id old new e has refused = rw has refused
 abbrev voted : {K N I L C : Type 0} → RaftStateIn K N I L C → UTime (VoteIn L) I → RaftStateIn K N I L C
 voted s vote = record s { vote = vote }
 
-heard_cut : {K N I L C : Type 0} (ord : OrdMembers C) (s new : RaftStateIn K N I L C) (vote : UTime (VoteIn L) I) (at : ℕ)
-    (prev : Option (LogIdOf C)) → CutAt ord at prev (voted s vote) new → CutAt ord at prev s new
-heard_cut ord s new vote at prev h = record {
+heard_cut : {K N I L C D : Type 0} (ord : OrdMembers C) (s new : RaftStateIn K N I L C) (vote : UTime (VoteIn L) I) (at : ℕ)
+    (prev : Option (LogIdOf C)) (es : List (EntryOf C K N D)) → CutAt ord at prev es (voted s vote) new → CutAt ord at prev es s new
+heard_cut ord s new vote at prev es h = record {
+  in_order = h.in_order;
   conflict = h.conflict;
   may = h.may;
   truncated = h.truncated;
@@ -573,8 +582,11 @@ module _ {K N I L C D : Type 0} (ord : OrdMembers C) (id_eq : K → K → Bool) 
         ) refl
     same_tests false id = by prev
       where
-        by : (o : Option (LogIdOf C)) → (let t : TakeTests = record tests_hold { keeps = may_cut_at ord.cmp o (voted s vote) } in t)
-            ≡ record tests_hold { keeps = may_cut_at ord.cmp o s }
+        by : (o : Option (LogIdOf C))
+            → (let t : TakeTests = record tests_hold {
+              keeps = may_cut_at ord.cmp o (voted s vote);
+              order = are_in_order ord.cmp prev es;
+            } in t) ≡ record tests_hold { keeps = may_cut_at ord.cmp o s; order = are_in_order ord.cmp prev es }
         by None = refl
         by (Some x) = refl
 
@@ -596,7 +608,7 @@ module _ {K N I L C D : Type 0} (ord : OrdMembers C) (id_eq : K → K → Bool) 
     heard_took request.prev request.entries.items (lesser_id ord.cmp request.committed
         (last_id_of_request request.prev request.entries.items)) h.1,
   )
-  heard_answers request (Conflict at last) not h = (heard_cut ord s new vote at request.prev h.0, h.1)
+  heard_answers request (Conflict at last) not h = (heard_cut ord s new vote at request.prev request.entries.items h.0, h.1)
   heard_answers request (HigherVote v) not h = absurd not
 
 -- a server that does not follow a leader is as it was

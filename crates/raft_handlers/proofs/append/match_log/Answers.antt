@@ -1,11 +1,25 @@
 use Rattle.std.proofs.Common.{◌≡◌, [], true, ap, refl, rules, sym, ◌∙◌}
 use Rattle.raft_handlers.specs.Append.{last_id_of_request, lesser_id}
 use Rattle.raft_handlers.proofs.lemmas.HeartbeatLemmas.{heartbeat_took, no_entries, none_to_commit}
-use Rattle.raft_handlers.proofs.lemmas.TakeLemmas.{conflict_refused}
+use Rattle.raft_handlers.proofs.lemmas.TakeLemmas.{conflict_refused, disorder_refused}
 use Rattle.raft_handlers.proofs.lemmas.WrittenLemmas.{conflict_written, nothing_matches}
 use Rattle.raft_progress.specs.progress.Comparisons.{OrdMembers}
 use Rattle.raft_state.specs.raft_state.Sound.{purged_or_logged}
 use Rattle.raft_handlers.proofs.append.match_log.Goals as goal
+
+pub returns-then-not-are_in_order-clause-refuses : goal.returns-then-not-are_in_order-clause-refuses
+returns-then-not-are_in_order-clause-refuses g c =
+    let r = c.args.request.now in
+    disorder_refused _ g.NID.PartialEq.eq g.N.PartialEq.eq g.met.C.Eq.laws r.prev r.entries.items
+    (lesser_id g.C.Ord.cmp r.committed (last_id_of_request r.prev r.entries.items)) c.args.state.now
+    (rw c.as_slice-entries.ensures.value at (sym c.are_in_order.ensures ∙ c.if-not-are_in_order.true))
+
+pub take_entries-requires-clause-plain : goal.take_entries-requires-clause-plain
+take_entries-requires-clause-plain g c = λ κs lives plain. rw c.as_slice-entries.ensures.value at (c.are_plain-plain.ensures plain)
+
+pub take_entries-requires-clause-in_order : goal.take_entries-requires-clause-in_order
+take_entries-requires-clause-in_order g c = λ κs lives.
+    rw c.as_slice-entries.ensures.value at (sym c.are_in_order.ensures ∙ c.if-not-are_in_order.false)
 
 pub returns-in_err-truncated_from-clause-refuses : goal.returns-in_err-truncated_from-clause-refuses
 returns-in_err-truncated_from-clause-refuses g c =
@@ -32,7 +46,7 @@ returns-then-same_optional_log_ids-clause-answers g c =
     let r = c.args.request.now in
     let s = c.args.state.now in
     let none : r.entries.items ≡ [] =
-    no_entries r.entries.items (rw c.as_slice.ensures.value at (sym c.is_empty-has_none.ensures ∙ c.if-has_none.true)) in
+    no_entries r.entries.items (rw c.as_slice-entries.ensures.value at (sym c.is_empty-has_none.ensures ∙ c.if-has_none.true)) in
     let has : purged_or_logged g.C.PartialEq.eq s r.prev ≡ true = search rules in
     let not = none_to_commit g.C.Ord.cmp g.met.C.Ord.total g.C.PartialEq.eq g.met.C.Ord.matches_eq r.committed
     (last_id_of_request r.prev r.entries.items) s.committed (sym c.same_optional_log_ids.ensures ∙ c.if-same_optional_log_ids.true) in (
@@ -45,5 +59,5 @@ pub returns-then-same_optional_log_ids-clause-writes : goal.returns-then-same_op
 returns-then-same_optional_log_ids-clause-writes g c =
     let r = c.args.request.now in
     let none : r.entries.items ≡ [] =
-    no_entries r.entries.items (rw c.as_slice.ensures.value at (sym c.is_empty-has_none.ensures ∙ c.if-has_none.true)) in
+    no_entries r.entries.items (rw c.as_slice-entries.ensures.value at (sym c.is_empty-has_none.ensures ∙ c.if-has_none.true)) in
     nothing_matches _ r.entries.items g.met.C.Ord.total g.met.C.Eq.laws r.prev c.args.state.now none
