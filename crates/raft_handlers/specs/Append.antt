@@ -163,6 +163,18 @@ may_take eq cmp prev es committed s =
     (lesser_id cmp committed (last_id_of_request prev es)) s
     else may_cut_at cmp prev s)
 
+-- a request to append entries changes nothing but the vote, as most heartbeats do, and a request that
+-- comes twice:
+-- - its entries are in order after `prev`, and the log has `prev` and each of them;
+-- - the leader's committed log id or the last log id of the request is not past what is committed.
+pub record ChangesNothing {K N I L C D : Type 0} (eq : C → C → Bool) (cmp : C → C → Ordering)
+    (request : AppendEntries L C K N D) (s : RaftStateIn K N I L C) : Type 0 where
+  pub in_order : IsTrue (are_in_order cmp request.prev request.entries.items)
+  pub has_prev : IsTrue (purged_or_logged eq s request.prev)
+  pub has_entries : IsTrue (has_all eq s request.entries.items)
+  pub committed : (id_lt cmp s.committed request.committed
+      && id_lt cmp s.committed (last_id_of_request request.prev request.entries.items)) ≡ false
+
 -- the tests of entries after a log id that the log has, and of a log id that is to be committed with
 -- them
 abbrev pub take_tests : {K N I L C D : Type 0} → (C → C → Bool) → (C → C → Ordering)

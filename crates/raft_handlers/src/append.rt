@@ -1,15 +1,15 @@
 //! A follower: the entries that a leader sends.
-ghost use Rattle.std.specs.Prelude.{◌≡◌, ◌≤◌, length, false, Ok, IsTrue, IfOk, IfErr, IfSome, IfNone, OnOk};
+ghost use Rattle.std.specs.Prelude.{◌≡◌, ◌≤◌, length, false, Ok, IsTrue, IfOk, IfErr, IfSome, IfNone};
 ghost use Rattle.std.specs.List.{prefix_len};
 ghost use Rattle.std.specs.Set.{ClonesAreEqual};
-ghost use Rattle.raft_handlers.specs.Append.{has_entry, lesser_id, take_tests, Answers, IfHigherVote, IsConflict, Refused, Refuses, Took};
+ghost use Rattle.raft_handlers.specs.Append.{has_entry, lesser_id, Answers, IfHigherVote, IsConflict, Refuses};
 ghost use Rattle.raft_handlers.specs.Entries.{are_in_order};
 ghost use Rattle.raft_handlers.specs.Follow.{higher_vote_response, is_followed, vote_heard};
 ghost use Rattle.raft_handlers.specs.Honest.{IsHonest};
 ghost use Rattle.raft_handlers.specs.Inner.Log.{are_plain};
-ghost use Rattle.raft_handlers.specs.Written.{no_changes, Writes, WritesLog};
+ghost use Rattle.raft_handlers.specs.Inner.Steps.{MatchesLog, RefusesEntries, RefusesToMatch, TakesEntries};
+ghost use Rattle.raft_handlers.specs.Written.{no_changes, Writes};
 ghost use Rattle.raft_handlers.specs.declared.error.AppendError.TheVariants.{OutOfMemory};
-ghost use Rattle.raft_handlers.specs.declared.message.Outcome.TheVariants.{Matches};
 ghost use Rattle.raft_state.specs.raft_state.Sound.{purged_or_logged, IsSound};
 
 use crate::changes::Changes;
@@ -108,19 +108,10 @@ fn match_log<NID: NodeId, N: Node, I: Instant, L: Drop, C: Ord + Copy + Drop, D>
     request: &AppendEntries<L, C, NID, N, D>,
 ) -> Result<(Outcome<L, C>, Changes<C>), AppendError>
     requires clones_are_equal { ClonesAreEqual N.eq N.is_clone }
-    ensures followed { IfOk result (λ made. IfHigherVote made.0 (λ _. ⊥)) }
-    ensures answers { IfOk result (λ made.
-        Answers C.Ord NID.eq N.eq request.now made.0 state.old state.new) }
-    ensures writes { IfOk result (λ made. WritesLog C.Ord request.now.entries.items made.0 made.1
-        state.old state.new) }
+    ensures matches { IfOk result (λ made.
+        MatchesLog C.Ord NID.eq N.eq request.now made.0 made.1 state.old state.new) }
     ensures refuses { IfErr result (λ e.
-        Refuses C.Ord NID.eq N.eq request.now e state.old state.new) }
-    ensures rest { state.new ≡ record state.old {
-      log_ids = state.new.log_ids;
-      membership_state = state.new.membership_state;
-      accepted = state.new.accepted;
-      committed = state.new.committed;
-    } }
+        RefusesToMatch C.Ord NID.eq N.eq request.now e state.old state.new) }
     ensures sound { IsSound C.eq C.cmp state.old → IsSound C.eq C.cmp state.new }
 {
     let entries = request.entries.as_slice();
@@ -183,19 +174,10 @@ fn take_entries<NID: NodeId, N: Node, I: Instant, L: Drop, C: Ord + Copy + Drop,
     requires in_order { IsTrue
         (are_in_order C.cmp request.now.prev request.now.entries.items) }
     requires prev { IsTrue (purged_or_logged C.eq state.old request.now.prev) }
-    ensures writes { IfOk result (λ changes. WritesLog C.Ord request.now.entries.items
-        (Matches request.now.prev) changes state.old state.new) }
-    ensures took { OnOk result (Took C.Ord NID.eq N.eq request.now.prev
-        request.now.entries.items committed state.old state.new) }
-    ensures refused { IfErr result (λ e. Refused C.Ord NID.eq N.eq
-        (take_tests C.eq C.cmp request.now.prev request.now.entries.items committed state.old)
-        request.now.prev request.now.entries.items e state.old state.new) }
-    ensures rest { state.new ≡ record state.old {
-      log_ids = state.new.log_ids;
-      membership_state = state.new.membership_state;
-      accepted = state.new.accepted;
-      committed = state.new.committed;
-    } }
+    ensures takes { IfOk result (λ changes.
+        TakesEntries C.Ord NID.eq N.eq request.now committed changes state.old state.new) }
+    ensures refuses { IfErr result (λ e.
+        RefusesEntries C.Ord NID.eq N.eq request.now committed e state.old state.new) }
     ensures sound { IsSound C.eq C.cmp state.old → IsSound C.eq C.cmp state.new }
 {
     let entries = request.entries.as_slice();

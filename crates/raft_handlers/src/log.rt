@@ -3,11 +3,10 @@ ghost use Rattle.std.specs.Prelude.{◌≡◌, ◌&&◌, ◌+◌, false, IsTrue,
 ghost use Rattle.std.specs.Set.{ClonesAreEqual};
 ghost use Rattle.raft_base.specs.LogId.{next_index};
 ghost use Rattle.raft_base.specs.declared.log_id.LogIdOf.{LogIdOf};
-ghost use Rattle.raft_handlers.specs.Entries.{are_in_order, ends_before, entry_ids, may_cut, tests_hold, RefusedUnless};
-ghost use Rattle.raft_handlers.specs.Written.{risen_to};
-ghost use Rattle.raft_handlers.specs.Inner.Log.{Extends, IsCut, Replaces, Stops, are_plain, commit_tests, continue_from, end_tests, has_past_committed, may_extend, new_tests, Truncates, WritesEntries};
+ghost use Rattle.raft_handlers.specs.Entries.{are_in_order, ends_before, may_cut, tests_hold, RefusedUnless};
+ghost use Rattle.raft_handlers.specs.Inner.Log.{Extends, IsCut, Stops, are_plain, continue_from, end_tests, may_extend, Truncates};
+ghost use Rattle.raft_handlers.specs.Inner.Steps.{CommitsUpto, PutsNew, RefusesCommit};
 ghost use Rattle.raft_state.specs.log_id_list.LogConditions.{follows};
-ghost use Rattle.raft_state.specs.raft_state.Commit.{state_after_commit, state_may_commit};
 ghost use Rattle.raft_state.specs.raft_state.Sound.{purged_or_logged, IsSound};
 
 use crate::error::AppendError;
@@ -86,16 +85,9 @@ pub(crate) fn append_new<NID: NodeId, N: Node, I: Instant, L: Drop, C: Ord + Cop
 ) -> Result<Option<u64>, AppendError>
     requires clones_are_equal { ClonesAreEqual N.eq N.is_clone }
     requires plain { IsTrue plain → IsTrue (are_plain C.eq new.now) }
-    ensures written { IfOk result (λ from.
-        WritesEntries C.eq from (entry_ids new.now) state.old state.new) }
-    ensures replaced { OnOk result (Replaces C.Ord NID.eq N.eq new.now state.old state.new) }
-    ensures refused { IfErr result (RefusedUnless (new_tests C.cmp new.now state.old)) }
-    ensures stopped { OnErr result (Stops C.Ord new.now state.old state.new) }
-    ensures rest { state.new ≡ record state.old {
-      log_ids = state.new.log_ids;
-      membership_state = state.new.membership_state;
-      accepted = state.new.accepted;
-    } }
+    ensures puts { IfOk result (λ from.
+        PutsNew C.Ord NID.eq N.eq new.now from state.old state.new) }
+    ensures stops { IfErr result (λ e. Stops C.Ord new.now e state.old state.new) }
     ensures sound { IsSound C.eq C.cmp state.old → IsSound C.eq C.cmp state.new }
 {
     let Some(first) = new.first() else {
@@ -264,17 +256,9 @@ pub(crate) fn commit<NID: NodeId, N: Node, I: Instant, L: Drop, C: Ord + Copy + 
     state: &mut RaftStateIn<NID, N, I, L, C>,
     upto: Option<LogIdOf<C>>,
 ) -> Result<Option<LogIdOf<C>>, AppendError>
-    ensures risen { IfOk result (λ risen.
-        risen ≡ risen_to C.cmp state.old.committed state.new.committed) }
-    ensures may { OnOk result (IsTrue (state_may_commit C.cmp upto state.old)) }
-    ensures has { OnOk result (IsTrue (has_past_committed C.eq C.cmp upto state.old)) }
-    ensures ok { OnOk result (state.new ≡ state_after_commit C.cmp upto state.old) }
-    ensures refused { IfErr result (RefusedUnless (commit_tests C.eq C.cmp upto state.old)) }
-    ensures err { OnErr result (state.new ≡ state.old) }
-    ensures rest { state.new ≡ record state.old {
-      committed = state.new.committed;
-      membership_state = state.new.membership_state;
-    } }
+    ensures commits { IfOk result (λ risen.
+        CommitsUpto C.Ord upto risen state.old state.new) }
+    ensures refuses { IfErr result (λ e. RefusesCommit C.Ord upto e state.old state.new) }
     ensures sound { IsSound C.eq C.cmp state.old → IsSound C.eq C.cmp state.new }
 {
     if !log_id_below(state.committed, upto) {

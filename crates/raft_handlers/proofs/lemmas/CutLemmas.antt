@@ -78,6 +78,11 @@ truncated_cut {K} {N} {I} {L} {C} ord since old new ends can log is =
       }) (sym members) is);
     }
 
+-- entries that have a first one are some
+not_none : {A : Type 0} (xs : List A) (first : A) → slice_get xs 0 ≡ Some first → xs ≡ [] → ⊥
+not_none [] first begins none = cc
+not_none (x ∷ xs) first begins none = cc
+
 -- a refusal because of the index of the first entry
 pub cut_refused : {K N I L C D : Type 0} (cmp : C → C → Ordering) (es : List (EntryOf C K N D)) (first : EntryOf C K N D)
     (s : RaftStateIn K N I L C) (e : AppendError) → slice_get es 0 ≡ Some first
@@ -126,8 +131,11 @@ module _ {K N I L C D : Type 0} (ord : OrdMembers C) (id_eq : K → K → Bool) 
   }
 
   -- a refusal before anything has changed
-  pub stops_unchanged : (es : List (EntryOf C K N D)) (old new : RaftStateIn K N I L C) → new ≡ old → Stops ord es old new
-  stops_unchanged es old new is = rw is (record {
+  pub stops_unchanged : (es : List (EntryOf C K N D)) (first : EntryOf C K N D) (e : AppendError) (old new : RaftStateIn K N I L C)
+      → slice_get es 0 ≡ Some first → RefusedUnless (new_tests ord.cmp es old) e → new ≡ old → Stops ord es e old new
+  stops_unchanged es first e old new begins why is = rw is (record {
+    refused = why;
+    some = not_none es first begins;
     left = inl (record { log = refl; memberships = refl; accepted = refl });
     kept = λ i lt. same_itself ord.eq eqs (id_at (full_log old.log_ids) i);
     rest = refl;
@@ -136,15 +144,19 @@ module _ {K N I L C D : Type 0} (ord : OrdMembers C) (id_eq : K → K → Bool) 
   -- after the log is cut at the first entry
   module _ (es : List (EntryOf C K N D)) (first : EntryOf C K N D) (old mid : RaftStateIn K N I L C)
       (begins : slice_get es 0 ≡ Some first) (was_cut : IsCut ord first.log_id.index old mid) where
-    pub stops_cut : (new : RaftStateIn K N I L C) → new ≡ mid → Stops ord es old new
-    stops_cut new stays = rw stays (by es begins)
+    pub stops_cut : (new : RaftStateIn K N I L C) (e : AppendError) → RefusedUnless (new_tests ord.cmp es old) e → new ≡ mid
+        → Stops ord es e old new
+    stops_cut new e why stays = rw stays (by es begins why)
       where
-        by : (xs : List (EntryOf C K N D)) → slice_get xs 0 ≡ Some first → Stops ord xs old mid
-        by [] h = cc
-        by (x ∷ xs) h =
+        by : (xs : List (EntryOf C K N D)) → slice_get xs 0 ≡ Some first → RefusedUnless (new_tests ord.cmp xs old) e
+            → Stops ord xs e old mid
+        by [] h r = cc
+        by (x ∷ xs) h r =
             let is : x ≡ first = cc in
             let c : IsCut ord x.log_id.index old mid = rw is was_cut in
             record {
+              refused = r;
+              some = λ none. cc;
               left = inr (c.keeps, record { log = c.log; memberships = c.memberships; accepted = c.accepted });
               kept = λ i lt. rw (c.log, front_reads (full_log old.log_ids) x.log_id.index i lt)
                   (same_itself ord.eq eqs (id_at (full_log old.log_ids) i));

@@ -1,17 +1,23 @@
--- A heartbeat that commits nothing more.
+-- A request that changes nothing.
 use Rattle.std.proofs.Common.{
   ◌≡◌,
   ◌==◌,
+  ◌&&◌,
+  ℕ,
+  suc,
+  ◌+◌,
   Bool,
   true,
   false,
   List,
   [],
+  ◌∷◌,
   Option,
   Some,
   None,
   if◌then◌else◌,
   nat_eq,
+  drop,
   length,
   refl,
   sym,
@@ -23,15 +29,18 @@ use Rattle.std.proofs.lemmas.Bool.{and_parts}
 use Rattle.std.proofs.lemmas.Bool.Decides.{nat_tests}
 use Rattle.std.proofs.lemmas.List.{nil_from_length}
 use Rattle.std.specs.Cmp.{IsEquivalence, IsTotalOrder}
+use Rattle.std.specs.Cmp.Derive.{both_true}
+use Rattle.std.specs.List.{list_all, prefix_len}
+use Rattle.std.specs.Option.{option_cmp}
 use Rattle.std.specs.Ordering.{is_eq}
 use Rattle.std.specs.declared.cmp.Ordering.{Ordering}
-use Rattle.raft_base.specs.LogId.{id_le, id_lt, same_ids}
+use Rattle.raft_base.specs.LogId.{id_le, id_lt, log_id_cmp, same_ids}
 use Rattle.raft_base.specs.LogIdLawful.{optional-log_id_cmp-total}
 use Rattle.raft_base.specs.declared.log_id.LogIdOf.{LogIdOf}
 use Rattle.raft_handlers.proofs.lemmas.CutLemmas.{replaces_nothing}
 use Rattle.raft_handlers.proofs.lemmas.TakeLemmas.{commit_took}
 use Rattle.raft_handlers.specs.Append.{lesser_id, Took}
-use Rattle.raft_progress.proofs.lemmas.OrderLemmas.{AtMost-from_not_lt, AtMost-refl, lt_le, not_lt-from_AtMost}
+use Rattle.raft_progress.proofs.lemmas.OrderLemmas.{AtMost-from_lt, AtMost-from_not_lt, AtMost-refl, lt_le, not_lt-from_AtMost}
 use Rattle.raft_progress.specs.progress.Comparisons.{OrdMembers}
 use Rattle.raft_state.proofs.lemmas.log_id_list.IdOrderLemmas.{none_at_most, then_below, upto_equal}
 use Rattle.raft_state.specs.raft_state.Sound.{purged_or_logged}
@@ -47,14 +56,16 @@ not_so true f = absurd (f refl)
 not_so false f = refl
 
 module _ {C : Type 0} (cmp : C → C → Ordering) (total : IsTotalOrder cmp) where
-  -- what is not past a log id is not past the lesser one of it and another one
-  not_past_least : (a b c : Option (LogIdOf C)) → id_lt cmp c a ≡ false → id_lt cmp c (lesser_id cmp a b) ≡ false
+  -- nothing is to be committed if one of two log ids is not past what is committed
+  pub not_past_least : (a b c : Option (LogIdOf C)) → (id_lt cmp c a && id_lt cmp c b) ≡ false
+      → id_lt cmp c (lesser_id cmp a b) ≡ false
   not_past_least a b c h = by (id_lt cmp a b) refl
     where
       by : (t : Bool) → id_lt cmp a b ≡ t → id_lt cmp c (if t then a else b) ≡ false
-      by true e = h
-      by false e = not_so (id_lt cmp c b) (λ lt. true≢false
-          (sym (lt_le (optional-log_id_cmp-total total) c b a lt (AtMost-from_not_lt (optional-log_id_cmp-total total) a b e)) ∙ h))
+      by true e = not_so (id_lt cmp c a) (λ lt. true≢false (sym (both_true lt
+          (lt_le (optional-log_id_cmp-total total) c a b lt (AtMost-from_lt (option_cmp (log_id_cmp cmp)) a b e))) ∙ h))
+      by false e = not_so (id_lt cmp c b) (λ lt. true≢false (sym (both_true
+          (lt_le (optional-log_id_cmp-total total) c b a lt (AtMost-from_not_lt (optional-log_id_cmp-total total) a b e)) lt) ∙ h))
 
   module _ (eq : C → C → Bool) (law : (a b : C) → eq a b ≡ is_eq (cmp a b)) where
     equal_at_most : (a b : Option (LogIdOf C)) → same_ids eq a b ≡ true → id_le cmp a b ≡ true
@@ -69,7 +80,19 @@ module _ {C : Type 0} (cmp : C → C → Ordering) (total : IsTotalOrder cmp) wh
     -- equal committed log ids leave nothing to commit
     pub none_to_commit : (a b c : Option (LogIdOf C)) → same_ids eq a c ≡ true → id_lt cmp c (lesser_id cmp a b) ≡ false
     none_to_commit a b c h =
-        not_past_least a b c (not_lt-from_AtMost (optional-log_id_cmp-total total) a c (equal_at_most a c h))
+        let low : id_lt cmp c a ≡ false = not_lt-from_AtMost (optional-log_id_cmp-total total) a c (equal_at_most a c h) in
+        not_past_least a b c (rw low refl)
+
+-- if a log has all entries, none is new
+pub none_new : {A : Type 0} (p : A → Bool) (n : ℕ) (xs : List A) → n ≡ prefix_len p xs → list_all p xs ≡ true → drop n xs ≡ []
+none_new {A} p n xs is all = rw is (by xs all)
+  where
+    by : (ys : List A) → list_all p ys ≡ true → drop (prefix_len p ys) ys ≡ []
+    by [] h = refl
+    by (y ∷ ys) h =
+        let b = and_parts (p y) (list_all p ys) h in
+        let more : 1 + prefix_len p ys ≡ suc (prefix_len p ys) = omega arith in
+        rw (b.0, more) (by ys b.1)
 
 -- without entries, and with nothing to commit, all stays as it is
 pub heartbeat_took : {K N I L C D : Type 0} (ord : OrdMembers C) (id_eq : K → K → Bool) (same : N → N → Bool) (eqs : IsEquivalence ord.eq)

@@ -52,6 +52,7 @@ use Rattle.raft_handlers.specs.Append.{
   replaced_since,
   take_tests,
   Answers,
+  ChangesNothing,
   CutAt,
   HasReplaced,
   IfHigherVote,
@@ -267,19 +268,17 @@ module _ {K N I L C D : Type 0} (ord : OrdMembers C) (id_eq : K → K → Bool) 
   module _ (n : ℕ) (is : n ≡ prefix_len (has_entry ord.eq old) es) (has : purged_or_logged ord.eq old prev ≡ true)
       (order : are_in_order ord.cmp prev es ≡ true) where
     -- they are refused before they are in the log
-    pub new_refused : (new : RaftStateIn K N I L C) (e : AppendError) → RefusedUnless (new_tests ord.cmp (drop n es) old) e
-        → Stops ord (drop n es) old new
+    pub new_refused : (new : RaftStateIn K N I L C) (e : AppendError) → Stops ord (drop n es) e old new
         → Refused ord id_eq same (take_tests ord.eq ord.cmp prev es id old) prev es e old new
-    new_refused new e why stopped =
-        let reason = subst (λ (m : ℕ). RefusedUnless (new_tests ord.cmp (drop m es) old) e) is why in
-        let stops = subst (λ (m : ℕ). Stops ord (drop m es) old new) is stopped in
+    new_refused new e stopped =
+        let stops = subst (λ (m : ℕ). Stops ord (drop m es) e old new) is stopped in
         let vote : new.vote ≡ old.vote = ap (λ s. s.vote) stops.rest in
         record {
           reason = refused_unless_more (new_tests ord.cmp (entries_to_append ord.eq old es) old) (take_tests ord.eq ord.cmp prev es id old)
               (λ h. h)
               (λ h. and_right (are_in_order ord.cmp prev es)
               (are_in_order ord.cmp (last_before (entries_to_append ord.eq old es) old) (entries_to_append ord.eq old es)) h)
-              (λ h. rw h refl) (λ h. absurd (true≢false h)) e reason;
+              (λ h. rw h refl) (λ h. absurd (true≢false h)) e stops.refused;
           kept = stops.kept;
           left = elim stops.left [
             | inl kept ↦ inl kept
@@ -381,6 +380,26 @@ take_rest {K} {N} {I} {L} {C} old mid new first later =
       committed = new.committed;
     }) (sym accepted) (rw (← logs) at (later ∙ ap (λ (s : RaftStateIn K N I L C).
     record s { committed = new.committed; membership_state = new.membership_state }) first))
+
+-- a truncation alone changes three of them
+pub cut_rest : {K N I L C : Type 0} (old new : RaftStateIn K N I L C) → new ≡ record old {
+  log_ids = new.log_ids;
+  membership_state = new.membership_state;
+  accepted = new.accepted;
+} → new ≡ record old {
+  log_ids = new.log_ids;
+  membership_state = new.membership_state;
+  accepted = new.accepted;
+  committed = new.committed;
+}
+cut_rest {K} {N} {I} {L} {C} old new rest =
+    let committed : new.committed ≡ old.committed = ap (λ s. s.committed) rest in
+    subst (λ (o : Option (LogIdOf C)). new ≡ record old {
+      log_ids = new.log_ids;
+      membership_state = new.membership_state;
+      accepted = new.accepted;
+      committed = o;
+    }) (sym committed) rest
 
 -- a log that conflicts is cut at the index of `prev`, or that is refused
 pub conflict_cut : {K N I L C D : Type 0} (ord : OrdMembers C) (at : ℕ) (prev : Option (LogIdOf C)) (es : List (EntryOf C K N D))
@@ -600,6 +619,12 @@ module _ {K N I L C D : Type 0} (ord : OrdMembers C) (id_eq : K → K → Bool) 
     left = heard_left request.prev request.entries.items h.left;
     rest = h.rest;
   }
+
+  -- nor whether it changes anything
+  pub heard_nothing : (request : AppendEntries L C K N D) → ChangesNothing ord.eq ord.cmp request s
+      → ChangesNothing ord.eq ord.cmp request (voted s vote)
+  heard_nothing request h =
+      record { in_order = h.in_order; has_prev = h.has_prev; has_entries = h.has_entries; committed = h.committed }
 
   pub heard_answers : (request : AppendEntries L C K N D) (o : Outcome L C) → IfHigherVote o (λ _. ⊥)
       → Answers ord id_eq same request o (voted s vote) new → Answers ord id_eq same request o s new

@@ -39,11 +39,13 @@ use Rattle.raft_handlers.specs.Entries.{
   may_cut,
   memberships_below,
   tests_hold,
+  RefusedUnless,
   TakeTests,
   ends_before,
   may_append_after,
 }
 use Rattle.raft_handlers.specs.Written.{truncated}
+use Rattle.raft_handlers.specs.declared.error.AppendError.{AppendError}
 use Rattle.raft_members.specs.membership.Stored.{log_id_of}
 use Rattle.raft_progress.specs.progress.Comparisons.{OrdMembers}
 use Rattle.raft_state.specs.declared.entry.EntryOf.{EntryOf}
@@ -168,10 +170,12 @@ pub record Extends {K N I L C D : Type 0} (eq : C → C → Bool) (id_eq : K →
       ≡ effective_with (log_id_of old.membership_state.effective) es
   pub rest : new ≡ record old { log_ids = new.log_ids; membership_state = new.membership_state }
 
--- entries were refused, or an allocation failed, before they were in the log: all is as it was, or cut
--- off at the first one
+-- entries, of which there are some, were refused, or an allocation failed, before they were in the log:
+-- all is as it was, or cut off at the first one
 pub record Stops {K N I L C D : Type 0} (ord : OrdMembers C) (es : List (EntryOf C K N D))
-    (old new : RaftStateIn K N I L C) : Type 0 where
+    (refusal : AppendError) (old new : RaftStateIn K N I L C) : Type 0 where
+  pub refused : RefusedUnless (new_tests ord.cmp es old) refusal
+  pub some : es ≡ [] → ⊥
   pub left : IsLogKept old new ⊎ (IsTrue (keeps_committed ord.cmp es old) × IsCutBefore ord.cmp es old new)
   pub kept : KeepsBelow ord.eq (replaced_since (full_log old.log_ids) es) (full_log old.log_ids)
       (full_log new.log_ids)

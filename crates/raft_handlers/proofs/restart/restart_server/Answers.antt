@@ -26,9 +26,10 @@ returns-in_err-append_new-clause-refused g c =
     let rest = slice_rest place items in
     let past : drop place items ≡ entries_past ord.eq meta.last_log_id stored =
     rw c.deref-2.ensures.value (rw c.deref.ensures.value at c.first_past-place.ensures.past) in
+    let stops = rw rest at c.in_err-append_new.ensures.stops in
     let reason = restart_refused g.NID.PartialEq.eq g.N.PartialEq.eq ord meta c.in_ok-state.state c.in_ok-state.ensures.snapshot stored
     (drop place items) (sym past) c.args.stored.now.committed c.in_err-append_new.field-0.0
-    (rw rest at c.in_err-append_new.ensures.refused) in
+    stops.refused in
     search (rules, reason)
 
 pub returns-in_err-commit-clause-refused : goal.returns-in_err-commit-clause-refused
@@ -45,9 +46,10 @@ returns-in_err-commit-clause-refused g c =
     let rest = slice_rest place items in
     let past : drop place items ≡ entries_past ord.eq meta.last_log_id stored =
     rw c.deref-2.ensures.value (rw c.deref.ensures.value at c.first_past-place.ensures.past) in
+    let puts = rw rest at c.in_ok-append_new.ensures.puts in
     let reason = restart_not_committed g.NID.PartialEq.eq g.N.PartialEq.eq ord meta c.in_ok-state.state c.in_ok-state.ensures.snapshot
     stored (drop place items) (sym past) c.args.stored.now.committed g.met.L.Committed.Eq.laws c.append_new.new.state
-    (rw rest at c.in_ok-append_new.ensures.replaced) c.in_err-commit.field-0.0 c.in_err-commit.ensures.refused in
+    puts.replaced c.in_err-commit.field-0.0 c.in_err-commit.ensures.refuses.refused in
     search (rules, reason)
 
 pub returns-clause-restores : goal.returns-clause-restores
@@ -64,9 +66,10 @@ returns-clause-restores g c =
     let rest = slice_rest place items in
     let past : drop place items ≡ entries_past ord.eq meta.last_log_id stored =
     rw c.deref-2.ensures.value (rw c.deref.ensures.value at c.first_past-place.ensures.past) in
+    let puts = rw rest at c.in_ok-append_new.ensures.puts in
     let r = restores g.NID.PartialEq.eq g.N.PartialEq.eq ord meta c.in_ok-state.state c.in_ok-state.ensures.snapshot
     stored (drop place items) (sym past) c.args.stored.now.committed g.met.L.Committed.Eq.laws c.append_new.new.state
-    (rw rest at c.in_ok-append_new.ensures.replaced) c.commit.new.state c.commit_known.new.state c.in_ok-commit.ensures.ok
+    puts.replaced c.commit.new.state c.commit_known.new.state c.in_ok-commit.ensures.commits.ok
     c.in_ok-commit_known.ensures.known c.commit_known.ensures.rest in
     let known = r.committed.2 in
     record {
