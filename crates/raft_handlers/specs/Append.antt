@@ -27,6 +27,7 @@ use Rattle.raft_handlers.specs.Entries.{
 use Rattle.raft_handlers.specs.declared.error.AppendError.{AppendError}
 use Rattle.raft_handlers.specs.declared.message.AppendEntries.{AppendEntries}
 use Rattle.raft_handlers.specs.declared.message.Outcome.{Outcome}
+use Rattle.raft_handlers.specs.declared.message.Response.{Response}
 use Rattle.raft_handlers.specs.declared.message.Outcome.TheVariants.{Matches, Conflict, HigherVote}
 use Rattle.raft_progress.specs.progress.Comparisons.{OrdMembers}
 use Rattle.raft_state.specs.raft_state.Appended.{AppendsMemberships}
@@ -41,6 +42,13 @@ use Rattle.raft_state.specs.raft_state.VoteAndLog.{vote_of}
 use Rattle.raft_state.specs.declared.accepted.AcceptedIn.{AcceptedIn}
 use Rattle.raft_state.specs.declared.entry.EntryOf.{EntryOf}
 use Rattle.raft_state.specs.declared.raft_state.RaftStateIn.{RaftStateIn}
+
+-- a response repeats what tells its request apart: the committed leader id of the request's leader, which
+-- is given, and the number of the request
+pub record Repeats {K N L C D : Type 0} (leader_id : C) (sent : AppendEntries L C K N D)
+    (response : Response L C) : Type 0 where
+  pub leader : response.leader_id ≡ leader_id
+  pub request : response.request ≡ sent.request
 
 -- an answer that the leader is not followed, because of a vote of which this holds
 abbrev pub IfHigherVote : {L C : Type 0} → Outcome L C → (VoteIn L → Type 0) → Type 0

@@ -1,8 +1,8 @@
 //! A follower: the entries that a leader sends.
-ghost use Rattle.std.specs.Prelude.{◌≡◌, ◌≤◌, length, false, Ok, IsTrue, IfOk, IfErr, IfSome, IfNone};
+ghost use Rattle.std.specs.Prelude.{◌≡◌, ◌≤◌, length, false, Ok, IsOk, IsTrue, IfOk, IfErr, IfSome, IfNone};
 ghost use Rattle.std.specs.List.{prefix_len};
 ghost use Rattle.std.specs.Set.{ClonesAreEqual};
-ghost use Rattle.raft_handlers.specs.Append.{has_entry, lesser_id, Answers, IfHigherVote, IsConflict, Refuses};
+ghost use Rattle.raft_handlers.specs.Append.{has_entry, lesser_id, Answers, ChangesNothing, IfHigherVote, IsConflict, Refuses, Repeats};
 ghost use Rattle.raft_handlers.specs.Entries.{are_in_order};
 ghost use Rattle.raft_handlers.specs.Follow.{higher_vote_response, is_followed, vote_heard};
 ghost use Rattle.raft_handlers.specs.Honest.{IsHonest};
@@ -30,6 +30,9 @@ use raft_state::{EntryOf, RaftStateIn, VoteStateReader};
 ///
 /// Returns the response, and what has changed. Write that to disk before you answer, the vote first.
 ///
+/// A request that changes nothing but the vote never fails (`no_memory`): it has no entry that is
+/// new, the log has `prev`, and nothing more is to be committed.
+///
 /// After an error the vote is the leader's, and the log may be truncated at the first new entry or
 /// have the new entries already (`refuses`). What is committed stays. Treat the error as a crash, and
 /// restart from the disk. Or write the vote and the log to disk as the state has them: a later call
@@ -45,9 +48,8 @@ pub fn handle_append_entries<
     request: &AppendEntries<L, L::Committed, NID, N, D>,
 ) -> Result<(Response<L, L::Committed>, Changes<L::Committed>), AppendError>
     requires clones_are_equal { ClonesAreEqual N.eq N.is_clone }
-    ensures leader { IfOk result (λ made.
-        made.0.leader_id ≡ L.committed request.now.leader_id) }
-    ensures request { IfOk result (λ made. made.0.request ≡ request.now.request) }
+    ensures repeats { IfOk result (λ made.
+        Repeats (L.committed request.now.leader_id) request.now made.0) }
     ensures vote { state.new.vote ≡ vote_heard L.order request.now.leader_id state.old }
     ensures not_followed { let leader = L.committed request.now.leader_id in
         is_followed L.order request.now.leader_id state.old ≡ false → result
@@ -63,6 +65,8 @@ pub fn handle_append_entries<
     ensures honest { IsSound L.Committed.eq L.Committed.cmp state.old →
         IsHonest L.Committed.eq L.Committed.cmp request.now.prev request.now.entries.items
         request.now.committed state.old → IfErr result (λ e. e ≡ OutOfMemory) }
+    ensures no_memory { ChangesNothing L.Committed.eq L.Committed.cmp request.now state.old →
+        IsOk result }
     ensures rest { state.new ≡ record state.old {
       vote = state.new.vote;
       log_ids = state.new.log_ids;

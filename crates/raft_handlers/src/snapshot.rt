@@ -1,6 +1,7 @@
 //! A follower: a snapshot that a leader sends.
-ghost use Rattle.std.specs.Prelude.{◌≡◌, Ok, false, true, IfOk, OnOk, OnErr};
+ghost use Rattle.std.specs.Prelude.{◌≡◌, Ok, false, true, IfOk, IsOk, OnOk, OnErr};
 ghost use Rattle.std.specs.Set.{ClonesAreEqual};
+ghost use Rattle.raft_base.specs.LogId.{id_lt};
 ghost use Rattle.raft_handlers.specs.Append.{IfHigherVote};
 ghost use Rattle.raft_handlers.specs.Follow.{heard, higher_vote_response, is_followed, vote_heard};
 ghost use Rattle.raft_handlers.specs.Snapshot.{install_refusal, snapshot_refusal, AnswersSnapshot, Installs, RefusedFor};
@@ -25,6 +26,8 @@ use raft_state::{SnapshotMetaOf, VoteStateReader};
 /// Returns the response, and what has changed. Write that to disk before you answer: the vote
 /// first. If the snapshot was installed, the state machine and the disk take it.
 ///
+/// A snapshot that is not past what is committed never fails (`no_memory`).
+///
 /// After an error the vote is the leader's, and nothing else has changed. Write the vote to disk, or
 /// treat the error as a crash. Both are right, because no answer was sent.
 pub fn handle_install_snapshot<
@@ -42,8 +45,9 @@ pub fn handle_install_snapshot<
     ensures request { IfOk result (λ made. made.0.request ≡ InFlight request.now.request) }
     ensures vote { state.new.vote ≡ vote_heard L.order request.now.leader_id state.old }
     ensures not_followed { let leader = L.committed request.now.leader_id in
+        let number = InFlight request.now.request in
         is_followed L.order request.now.leader_id state.old ≡ false → result
-        ≡ Ok (higher_vote_response leader (InFlight request.now.request) state.old, nothing_installed) }
+        ≡ Ok (higher_vote_response leader number state.old, nothing_installed) }
     ensures followed { IfOk result (λ made. IfHigherVote made.0.outcome
         (λ _. is_followed L.order request.now.leader_id state.old ≡ false)) }
     ensures answers { IfOk result (λ made. AnswersSnapshot L.Committed.Ord L.eq
@@ -55,6 +59,8 @@ pub fn handle_install_snapshot<
     ensures refused { RefusedFor (snapshot_refusal L.order L.Committed.cmp L.Committed.eq
         request.now.leader_id request.now.meta state.old) result }
     ensures err { OnErr result (state.new ≡ heard L.order request.now.leader_id state.old) }
+    ensures no_memory { id_lt L.Committed.cmp state.old.committed request.now.meta.last_log_id
+        ≡ false → IsOk result }
     ensures sound { IsSound L.Committed.eq L.Committed.cmp state.old →
         IsSound L.Committed.eq L.Committed.cmp state.new }
 {
@@ -100,6 +106,8 @@ pub(crate) fn install<NID: NodeId, N: Node, I: Instant, L: LeaderIdentity<Id = N
     ensures refused { RefusedFor (install_refusal L.order L.Committed.cmp L.Committed.eq
         meta.now state.old) result }
     ensures err { OnErr result (state.new ≡ state.old) }
+    ensures no_memory { id_lt L.Committed.cmp state.old.committed meta.now.last_log_id ≡ false →
+        IsOk result }
     ensures sound { IsSound L.Committed.eq L.Committed.cmp state.old →
         IsSound L.Committed.eq L.Committed.cmp state.new }
 {

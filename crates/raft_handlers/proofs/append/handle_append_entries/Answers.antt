@@ -1,8 +1,9 @@
 use Rattle.std.proofs.Common.{◌≡◌, false, ap, rules, sym, ◌∙◌}
 use Rattle.raft_handlers.proofs.lemmas.RefusalLemmas.{taken_error}
-use Rattle.raft_handlers.proofs.lemmas.TakeLemmas.{heard_answers, heard_refuses, heard_rest, not_heard}
+use Rattle.raft_handlers.proofs.lemmas.TakeLemmas.{heard_answers, heard_nothing, heard_refuses, heard_rest, not_heard}
 use Rattle.raft_handlers.proofs.lemmas.WrittenLemmas.{heard_writes, higher_writes}
 use Rattle.raft_handlers.specs.Follow.{is_followed, vote_heard}
+use Rattle.raft_progress.specs.progress.Comparisons.{OrdMembers}
 use Rattle.raft_handlers.specs.declared.error.AppendError.TheVariants.{OutOfMemory}
 use Rattle.raft_handlers.proofs.append.handle_append_entries.Goals as goal
 
@@ -69,3 +70,14 @@ returns-in_err-outcome-clause-honest g c = λ sound honest.
     taken_error g.L.Committed.PartialEq.eq g.L.Committed.Ord.cmp c.args.request.now.prev c.args.request.now.entries.items c.args.state.now
     c.args.request.now.committed c.in_err-outcome.field-0.0 (c.honest_request_may_be_taken.ensures sound honest) refuses.reason in
     search (rules, memory)
+
+pub returns-in_err-outcome-clause-no_memory : goal.returns-in_err-outcome-clause-no_memory
+returns-in_err-outcome-clause-no_memory g c = λ nothing.
+    let ord : OrdMembers g.row.L-Committed.Denot = record {
+      partial_cmp = g.L.Committed.PartialOrd.partial_cmp;
+      eq = g.L.Committed.PartialEq.eq;
+      cmp = g.L.Committed.Ord.cmp;
+    } in
+    let needed = rw c.follow.ensures.heard at c.in_err-outcome.ensures.refuses.needed in
+    absurd (needed (heard_nothing ord g.NID.PartialEq.eq g.N.PartialEq.eq c.args.state.now c.match_log.new.state
+    (vote_heard g.L.LeaderIdentity.order c.args.request.now.leader_id c.args.state.now) c.args.request.now nothing))

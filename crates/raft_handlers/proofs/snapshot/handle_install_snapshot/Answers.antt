@@ -64,3 +64,7 @@ returns-clause-writes g c =
     heard_installs _ c.args.request.now.meta g.L.PartialEq.eq s c.install.new.state (vote_heard order leader s) _ c.in-Some.is_new
     (is_followed order leader s) (rw c.in_ok-changes.ensures.installs.vote c.in-Some.ensures.answer) followed
     (rw c.follow.ensures.heard at c.in_ok-changes.ensures.writes)
+
+pub returns-in_err-changes-clause-no_memory : goal.returns-in_err-changes-clause-no_memory
+returns-in_err-changes-clause-no_memory g c = λ not.
+    let taken = rw c.follow.ensures.heard at c.in_err-changes.ensures.no_memory in let none = taken not in cc

@@ -7,7 +7,7 @@ use Rattle.raft_handlers_tests.proofs.uses.replicates.Goals as goal
 pub returns-in-Matches-clause-knows : goal.returns-in-Matches-clause-knows
 returns-in-Matches-clause-knows g c = λ matches numbered entry known.
     let answered = rw c.in-Matches.is at c.in_ok-response.ensures.answers in
-    let request : IsSome c.in_ok-response.response.request = rw c.in_ok-response.ensures.request numbered in
+    let request : IsSome c.in_ok-response.response.request = rw c.in_ok-response.ensures.repeats.request numbered in
     learned g.NID.PartialEq.eq g.met.NID.Eq.laws _ c.args.leader.now c.handle_response.new.self c.args.member.now
     c.in_ok-response.response c.in-Matches.field-0 request c.in-Matches.is _ c.in_ok-handle_response.ensures.takes entry known
     ∙ answered.0
@@ -15,7 +15,7 @@ returns-in-Matches-clause-knows g c = λ matches numbered entry known.
 pub returns-in-Matches-clause-knows_what_is_there : goal.returns-in-Matches-clause-knows_what_is_there
 returns-in-Matches-clause-knows_what_is_there g c = λ matches numbered entry known.
     let answered = rw c.in-Matches.is at c.in_ok-response.ensures.answers in
-    let request : IsSome c.in_ok-response.response.request = rw c.in_ok-response.ensures.request numbered in
+    let request : IsSome c.in_ok-response.response.request = rw c.in_ok-response.ensures.repeats.request numbered in
     let upto : entry.matching ≡ last_id_of_request c.args.request.now.prev c.args.request.now.entries.items =
     learned g.NID.PartialEq.eq g.met.NID.Eq.laws _ c.args.leader.now c.handle_response.new.self c.args.member.now
     c.in_ok-response.response c.in-Matches.field-0 request c.in-Matches.is _ c.in_ok-handle_response.ensures.takes entry known
