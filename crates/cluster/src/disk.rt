@@ -1,10 +1,10 @@
-//! What is on the disk of a server: the entries of its log, its last snapshot, its vote and its
-//! term.
+//! What is on the disk of a server: the entries of its log, its last snapshot, its vote, its term,
+//! and how often it has led on without an election.
 
 use crate::deed::Deed;
 use crate::fault::Fault;
 use crate::server::Server;
-use crate::types::{Changes, Entry, Leader, SnapshotMeta, State, Vote, end};
+use crate::types::{Changes, Entry, SnapshotMeta, State, Vote, end};
 use raft_base::LogStateReader;
 use raft_handlers::{HandlerError, RestartError, SnapshotChanges, Stored, restart_server};
 
@@ -94,7 +94,7 @@ impl Server {
         self.follow();
         // A server that is known to be removed still has its committed vote.
         if self.state.is_leader(&self.id) && self.may_lead() {
-            let leader = Leader::resume(self.id, &self.state)?;
+            let leader = self.resume()?;
             self.lead(leader)?;
         }
         self.deed = Some(Deed::Restarts);

@@ -3,7 +3,9 @@
 use crate::fault::Fault;
 use crate::server::Server;
 use crate::types::{AppendEntries, InstallSnapshot, LeaderId, Response, Vote};
-use raft_handlers::{HandlerError, Outcome, handle_append_entries, handle_install_snapshot};
+use raft_handlers::{
+    HandlerError, Outcome, RequestNumber, handle_append_entries, handle_install_snapshot,
+};
 
 impl Server {
     /// Takes a leader's entries, and writes them to disk before it answers.
@@ -26,7 +28,7 @@ impl Server {
         if self.heeds(request.leader_id) && self.fault == Some(Fault::AcknowledgeUninstalled) {
             return Ok(Response {
                 leader_id: request.leader_id.to_committed(),
-                request: Some(request.request),
+                request: RequestNumber::InFlight(request.request),
                 outcome: Outcome::Matches(request.meta.last_log_id),
             });
         }

@@ -6,9 +6,9 @@ use crate::fault::Fault;
 use crate::message::Content;
 use crate::server::{Role, Server};
 use crate::types::{
-    AppendEntries, ChangeMembers, Entry, InstallSnapshot, LogIdRange, Response, end,
+    AppendEntries, ChangeMembers, Entry, InstallSnapshot, Leader, LogIdRange, Response, end,
 };
-use raft_handlers::{HandlerError, Outcome, ResponseError};
+use raft_handlers::{HandlerError, Heartbeat, Outcome, RequestNumber, ResumeError};
 use raft_progress::InflightOf;
 use std::alloc::AllocError;
 
@@ -20,15 +20,19 @@ impl Server {
     /// Returns what the leader sends next to a follower: entries, a snapshot, or a heartbeat if
     /// there is nothing to send or something is in flight. Without memory it sends nothing.
     pub fn next_request(&mut self, to: u64) -> Option<Content> {
-        let last = self.last();
         let max_entries = self.max_entries();
         let Role::Leader(leader) = &mut self.role else {
             return None;
         };
         match leader.next_request(&self.state, &to, max_entries)? {
-            InflightOf::Logs { id, log_id_range } => self.entries(Some(id), log_id_range),
+            InflightOf::Logs { id, log_id_range } => {
+                self.entries(RequestNumber::InFlight(id), log_id_range)
+            }
             InflightOf::Snapshot { id, .. } => self.snapshot(id),
-            InflightOf::None => self.entries(None, LogIdRange::new(last, last)),
+            InflightOf::None => {
+                let Heartbeat { request, prev } = leader.heartbeat(&self.state, &to)?;
+                self.entries(request, LogIdRange::new(prev, prev))
+            }
         }
     }
 
@@ -44,7 +48,7 @@ impl Server {
     }
 
     /// Returns a request to append the entries of a range.
-    fn entries(&self, request: Option<u64>, range: LogIdRange) -> Option<Content> {
+    fn entries(&self, request: RequestNumber, range: LogIdRange) -> Option<Content> {
         let places = self.place(end(range.prev))..self.place(end(range.last));
         Some(Content::Append(AppendEntries {
             leader_id: self.vote().leader_id,
@@ -72,18 +76,25 @@ impl Server {
         if let Role::Leader(leader) = &mut self.role {
             // A response that is late, comes twice or answers another leader is refused, and
             // changes nothing.
-            let taken = leader.handle_response(&from, response);
-            if taken == Err(ResponseError::Foreign) {
+            if leader.handle_response(&from, response).is_err() {
                 return Ok(());
             }
-            // A heartbeat is answered after the request that was sent before it, or that one is
-            // lost.
-            if response.request.is_none() {
+            // A heartbeat is answered after the request that was sent before it, or the request or
+            // its response is lost.
+            if matches!(response.request, RequestNumber::Heartbeat(_)) {
                 leader.give_up(&from);
             }
             self.commit()?;
         }
         Ok(())
+    }
+
+    /// Returns the leader of the server's committed vote anew. Its requests get greater numbers than
+    /// any that the server has sent before, so a late response is refused.
+    pub fn resume(&mut self) -> Result<Leader, ResumeError> {
+        self.resumptions = self.resumptions.saturating_add(1);
+        let last_request = self.resumptions.saturating_mul(1 << 32);
+        Leader::resume(self.id, &self.state, last_request)
     }
 
     /// Appends an entry with a command, if the server leads.

@@ -3,7 +3,7 @@
 use crate::deed::Deed;
 use crate::fault::Fault;
 use crate::server::{Role, Server};
-use crate::types::{ChangeMembers, Entry, Leader, LogId, Members, Payload, end};
+use crate::types::{ChangeMembers, Entry, LogId, Members, Payload, end};
 use raft_handlers::HandlerError;
 use std::collections::BTreeSet;
 use std::slice;
@@ -49,7 +49,7 @@ impl Server {
             return Ok(());
         }
         if self.fault != Some(Fault::CountOldMembers) {
-            let leader = Leader::resume(self.id, &self.state)?;
+            let leader = self.resume()?;
             self.role = Role::Leader(leader);
         }
         self.deed = Some(Deed::Changes);

@@ -35,6 +35,8 @@ pub struct Server {
     pub patience: u64,
     /// The greatest term that it has heard of. Like its vote it is on disk.
     pub term: u64,
+    /// How often it has led on without an election. Like its vote it is on disk.
+    pub resumptions: u64,
     pub state: State,
     /// The entries of its log that are not purged, as they are on its disk.
     pub disk: Vec<Entry>,
@@ -61,6 +63,7 @@ impl Server {
             role: Role::Follower,
             patience: id,
             term: 0,
+            resumptions: 0,
             state: State::try_default(alloc)?,
             disk: Vec::new(alloc),
             deed: None,

@@ -8,8 +8,8 @@ use anyhow::{Context, Result, bail, ensure};
 use raft_base::leader_id_std::{CommittedLeaderId, LeaderId};
 use raft_base::{EmptyNode, LogIdOf, LogIdRangeOf, LogStateReader};
 use raft_handlers::{
-    AppendEntries, Candidate, Leader, Outcome, Response, State, Stored, handle_append_entries,
-    handle_vote_request, restart_server, start_cluster,
+    AppendEntries, Candidate, Heartbeat, Leader, Outcome, RequestNumber, Response, State, Stored,
+    handle_append_entries, handle_vote_request, restart_server, start_cluster,
 };
 use raft_members::{ChangeMembers, Membership};
 use raft_progress::InflightOf;
@@ -139,10 +139,15 @@ fn elect(servers: &mut BTreeMap<u64, Server>, id: u64, voter: u64) -> Result<()>
 /// Returns what the leader sends to a follower: entries that it lacks, or a heartbeat.
 fn next_request(server: &mut Server, to: u64) -> Result<Request> {
     let leader = server.leader.as_mut().context("the server does not lead")?;
-    let last = server.state.last_log_id().copied();
     let (request, range) = match leader.next_request(&server.state, &to, 64) {
-        Some(InflightOf::Logs { id, log_id_range }) => (Some(id), log_id_range),
-        Some(InflightOf::None) => (None, LogIdRangeOf::new(last, last)),
+        Some(InflightOf::Logs { id, log_id_range }) => {
+            (RequestNumber::InFlight(id), log_id_range)
+        }
+        Some(InflightOf::None) => {
+            let heartbeat = leader.heartbeat(&server.state, &to);
+            let Heartbeat { request, prev } = heartbeat.context("the follower is no member")?;
+            (request, LogIdRangeOf::new(prev, prev))
+        }
         _ => bail!("the follower is no member, or is to be sent a snapshot"),
     };
     let places = end(range.prev)..end(range.last);
