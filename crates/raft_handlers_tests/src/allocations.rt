@@ -1,14 +1,14 @@
 //! Handlers with each allocation refused in turn, or all of them.
 
 use crate::candidate::candidate;
-use crate::leader::{LIFE, LeaderOf, Led, Right, SNAPSHOT, Step, snapshotted};
+use crate::leader::{HEARTBEATS, LIFE, LeaderOf, Led, Right, SNAPSHOT, Step, snapshotted};
 use crate::states::{Entry, Row, StateOf, entries, entry_of_members, follower, id, members, voter};
 use crate::vote::{ROWS, answers};
 use raft_base::{EmptyNode, LeaderAdv, LeaderId, LeaderKind, VoteIn};
 use raft_handlers::{
     AppendEntries, Candidate, ChangeError, HandlerError, InstallSnapshot, Leader, Outcome,
-    ProposeError, Response, SnapshotError, Stored, handle_append_entries, handle_install_snapshot,
-    restart_server, start_cluster,
+    ProposeError, RequestNumber, Response, SnapshotError, Stored, handle_append_entries,
+    handle_install_snapshot, restart_server, start_cluster,
 };
 use raft_members::{ChangeMembers, ChangeMembershipErrorOf, StoredMembershipOf};
 use raft_state::SnapshotMetaOf;
@@ -51,7 +51,7 @@ fn appends_membership(
 ) -> Result<AppendEntries<Id, Id, u64, EmptyNode, u64>, AllocError> {
     Ok(AppendEntries {
         leader_id: Id::new(3, 1),
-        request: Some(1),
+        request: RequestNumber::InFlight(1),
         prev: id::<LeaderAdv>(Some((2, 3))),
         entries: entry_of_members::<LeaderAdv>(alloc, Some((3, 4)))?,
         committed: None,
@@ -155,12 +155,12 @@ impl<K: LeaderKind<u64>> Led<K> {
     /// The leader 1 of a state, resumed, all of whose log up to a row is on disk at the nodes 1 and
     /// 2.
     fn granted(state: &StateOf<K>, upto: Row) -> Result<LeaderOf<K>, HandlerError> {
-        let mut leader = Leader::resume(1, state)?;
+        let mut leader = Leader::resume(1, state, 0)?;
         leader.handle_flushed(state, id::<K>(upto))?;
         let _sent = leader.next_request(state, &2, 8);
         let response = Response::<K::Leader, K::Committed> {
             leader_id: leader.leader_id(),
-            request: Some(1),
+            request: RequestNumber::InFlight(1),
             outcome: Outcome::Matches(id::<K>(upto)),
         };
         leader.handle_response(&2, &response)?;
@@ -182,7 +182,7 @@ impl<K: LeaderKind<u64>> Led<K> {
         state: &mut StateOf<K>,
         is_blank: bool,
     ) -> Result<bool, AllocError> {
-        let leader: LeaderOf<K> = in_memory(Leader::resume(1, state))?;
+        let leader: LeaderOf<K> = in_memory(Leader::resume(1, state, 0))?;
         allocation.refuse();
         let made: Result<Entry<K>, ProposeError> = if is_blank {
             leader.propose_blank(state)
@@ -222,7 +222,7 @@ impl<K: LeaderKind<u64>> Led<K> {
             }
             "Leader::resume" => {
                 allocation.refuse();
-                is_done(allocation, Leader::resume(1, state))
+                is_done(allocation, Leader::resume(1, state, 0))
             }
             "Leader::propose_blank" => Led::<K>::proposes(allocation, state, true),
             "Leader::propose" => Led::<K>::proposes(allocation, state, false),
@@ -286,19 +286,21 @@ fn is_life_free<K: LeaderKind<u64>>(
     state: Result<StateOf<K>, SnapshotError>,
     rows: &[(&'static str, Step, Right)],
 ) -> io::Result<bool> {
-    let name = "Leader::{next_request, handle_response, handle_flushed, give_up, commit}";
+    let name =
+        "Leader::{next_request, heartbeat, handle_response, handle_flushed, give_up, commit}";
     let mut led = in_memory(Led::<K>::new(in_memory(state)?))?;
     refuse_each(alloc);
     let is_right = led.fails(rows).is_none();
     is_free(rt, alloc, name, is_right)
 }
 
-/// Whether a leader sends, takes responses and commits without an allocation, with all of its log
-/// and with a snapshot.
+/// Whether a leader sends, takes responses and commits without an allocation, with all of its log,
+/// with a snapshot, and by heartbeats.
 fn is_leader_free<K: LeaderKind<u64>>(rt: &impl Print, alloc: Global) -> io::Result<bool> {
     let whole = is_life_free::<K>(rt, alloc, Ok(voter::<K>(alloc)?), LIFE)?;
     let snapshot = is_life_free::<K>(rt, alloc, snapshotted::<K>(alloc), SNAPSHOT)?;
-    Ok(whole && snapshot)
+    let heartbeats = is_life_free::<K>(rt, alloc, Ok(voter::<K>(alloc)?), HEARTBEATS)?;
+    Ok([whole, snapshot, heartbeats] == [true; 3])
 }
 
 #[test]

@@ -5,7 +5,7 @@ use crate::states::{
     Answer, Row, StateOf, due, entries, entry_of_members, follower, id, is_at, members,
 };
 use raft_base::{LeaderAdv, LeaderKind, LeaderStd, VoteOf};
-use raft_handlers::{AppendEntries, AppendError, Changes, handle_append_entries};
+use raft_handlers::{AppendEntries, AppendError, Changes, RequestNumber, handle_append_entries};
 use raft_members::EffectiveMembershipOf;
 use raft_state::MembershipStateOf;
 use raft_testing::memory::with_made;
@@ -199,7 +199,7 @@ fn answers<K: LeaderKind<u64>>(
     let (_, sent, answer, written, last, committed) = *row;
     let request = AppendEntries {
         leader_id: VoteOf::<u64, K>::new(sent.0, 1).leader_id,
-        request: Some(7),
+        request: RequestNumber::InFlight(7),
         prev: id::<K>(sent.1),
         entries: entries::<K>(alloc, sent.2)?,
         committed: id::<K>(sent.3),
@@ -246,7 +246,7 @@ fn append_members<K: LeaderKind<u64>>(
     let at = Some((3, 4));
     let request = AppendEntries {
         leader_id: VoteOf::<u64, K>::new(3, 1).leader_id,
-        request: None,
+        request: RequestNumber::InFlight(7),
         prev: id::<K>(END),
         entries: entry_of_members::<K>(alloc, at)?,
         committed: id::<K>(at),

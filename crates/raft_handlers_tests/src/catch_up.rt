@@ -5,7 +5,7 @@ use crate::leader::Led;
 use crate::states::{Entry, Row, StateOf, entry_of_members, id};
 use raft_base::leader_id_std::{CommittedLeaderId, LeaderId};
 use raft_base::{EmptyNode, LeaderStd, LogIdOf, LogIdRangeOf, LogStateReader, UTime, VoteOf};
-use raft_handlers::{AppendEntries, HandlerError, Leader, handle_append_entries};
+use raft_handlers::{AppendEntries, HandlerError, Leader, RequestNumber, handle_append_entries};
 use raft_progress::InflightOf;
 use raft_state::{EntryPayload, LogIdListOf, is_key_list};
 use std::alloc::{AllocError, Global};
@@ -57,7 +57,7 @@ fn new_leader(alloc: Global) -> Result<Led<LeaderStd>, HandlerError> {
     if state.can_append_entries(&entries) {
         state.append_entries(&entries)?;
     }
-    let mut leader = Leader::resume(1, &state)?;
+    let mut leader = Leader::resume(1, &state, 0)?;
     let own: Entry<LeaderStd> = leader.propose_blank(&mut state)?;
     leader.handle_flushed(&state, Some(own.log_id))?;
     Ok(Led { state, leader })
@@ -87,7 +87,7 @@ impl Led<LeaderStd> {
         }
         Ok(Request {
             leader_id: self.state.vote.get().leader_id,
-            request: Some(number),
+            request: RequestNumber::InFlight(number),
             prev: range.prev,
             entries,
             committed: None,

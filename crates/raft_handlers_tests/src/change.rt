@@ -3,8 +3,8 @@
 use crate::asserts::{assert_leader, assert_right};
 use crate::leader::Led;
 use crate::states::{Entry, Row, StateOf, id, members_of, voter};
-use raft_base::{EmptyNode, LeaderAdv, LeaderKind, LeaderStd};
-use raft_handlers::{ChangeError, HandlerError, Outcome, ResponseError};
+use raft_base::{EmptyNode, LeaderAdv, LeaderKind, LeaderStd, LogIdOf, LogStateReader};
+use raft_handlers::{ChangeError, HandlerError, Heartbeat, Outcome, RequestNumber, ResponseError};
 use raft_members::{ChangeMembers, ChangeMembershipErrorOf, EffectiveMembershipOf};
 use raft_progress::InflightError;
 use raft_state::MembershipStateOf;
@@ -31,7 +31,7 @@ enum Right {
     NotJoint,
     InProgress,
     LearnerNotFound,
-    Commits(bool),
+    Commits(Row),
     Other,
 }
 
@@ -39,13 +39,13 @@ enum Right {
 const ROWS: &[(&str, Step, Right)] = &[
     ("early", Step::Change(&[1, 2]), Right::NoOwnGranted),
     ("not joint", Step::Leave, Right::NotJoint),
-    ("its own", Step::Commit(1, 5), Right::Commits(true)),
+    ("its own", Step::Commit(1, 5), Right::Commits(Some((3, 5)))),
     ("no learner", Step::Change(&[1, 4]), Right::LearnerNotFound),
     ("joint", Step::Change(&[1, 2]), Right::Appends(Some((3, 6)))),
     ("soon", Step::Leave, Right::InProgress),
-    ("committed", Step::Commit(2, 6), Right::Commits(true)),
+    ("committed", Step::Commit(2, 6), Right::Commits(Some((3, 6)))),
     ("left", Step::Leave, Right::Appends(Some((3, 7)))),
-    ("the end", Step::Commit(3, 7), Right::Commits(true)),
+    ("the end", Step::Commit(3, 7), Right::Commits(Some((3, 7)))),
 ];
 
 /// What an answer to a change is.
@@ -66,8 +66,13 @@ fn answer<K: LeaderKind<u64>>(
 }
 
 impl<K: LeaderKind<u64>> Led<K> {
-    /// Sends to node 2, takes its acknowledgement up to an index of term 3, and commits.
-    pub fn commit_upto(&mut self, request: u64, index: u64) -> Result<bool, HandlerError> {
+    /// Sends to node 2, takes its acknowledgement up to an index of term 3, and commits. Returns
+    /// what is committed then, if that is new.
+    pub fn commit_upto(
+        &mut self,
+        request: u64,
+        index: u64,
+    ) -> Result<Option<LogIdOf<K::Committed>>, HandlerError> {
         let upto = id::<K>(Some((3, index)));
         self.leader.handle_flushed(&self.state, upto)?;
         let _sent = self.leader.next_request(&self.state, &2, 8);
@@ -78,7 +83,7 @@ impl<K: LeaderKind<u64>> Led<K> {
     /// A leader whose own entry is committed.
     pub fn committed(alloc: Global) -> Result<Self, HandlerError> {
         let mut led = Led::<K>::new(voter::<K>(alloc)?)?;
-        let _more = led.commit_upto(1, 5)?;
+        let _upto = led.commit_upto(1, 5)?;
         Ok(led)
     }
 
@@ -87,11 +92,11 @@ impl<K: LeaderKind<u64>> Led<K> {
     pub fn joint(alloc: Global) -> Result<StateOf<K>, HandlerError> {
         let mut led = Led::<K>::committed(alloc)?;
         let _entry = led.change(alloc, Step::Change(&[1, 2]), None)?;
-        let _more = led.commit_upto(2, 6)?;
+        let _upto = led.commit_upto(2, 6)?;
         Ok(led.state)
     }
 
-    /// What a step leads to, which appends at a row if it appends.
+    /// What a step leads to, which appends at a row or commits up to it.
     fn change(&mut self, alloc: Global, step: Step, at: Row) -> Result<Right, HandlerError> {
         match step {
             Step::Change(ids) => {
@@ -105,7 +110,12 @@ impl<K: LeaderKind<u64>> Led<K> {
                 Ok(answer::<K>(&made, at))
             }
             Step::Commit(request, index) => {
-                Ok(Right::Commits(self.commit_upto(request, index)?))
+                let upto = self.commit_upto(request, index)?;
+                Ok(if upto == id::<K>(at) {
+                    Right::Commits(at)
+                } else {
+                    Right::Other
+                })
             }
         }
     }
@@ -122,10 +132,10 @@ impl<K: LeaderKind<u64>> Led<K> {
     }
 }
 
-/// The row at which a step should append.
+/// The row at which a step should append, or up to which it should commit.
 fn row(right: Right) -> Row {
     match right {
-        Right::Appends(at) => at,
+        Right::Appends(at) | Right::Commits(at) => at,
         _ => None,
     }
 }
@@ -150,6 +160,22 @@ fn late(mine: Option<u64>) -> Result<(), ResponseError> {
     Err(ResponseError::Inflight(InflightError::InvalidRequestId { mine, received: 1 }))
 }
 
+/// The answer of an empty log.
+fn empty<L, C>() -> Outcome<L, C> {
+    Outcome::Conflict {
+        index: 5,
+        last: None,
+    }
+}
+
+/// The number of a heartbeat.
+fn beat_number<C: Drop>(beat: Option<Heartbeat<C>>) -> Option<u64> {
+    match beat?.request {
+        RequestNumber::Heartbeat(number) => Some(number),
+        RequestNumber::InFlight(_) => None,
+    }
+}
+
 impl<K: LeaderKind<u64>> Led<K> {
     /// Adds node 3 as a learner.
     fn add(&mut self, alloc: Global) -> Result<bool, AllocError> {
@@ -167,24 +193,26 @@ impl<K: LeaderKind<u64>> Led<K> {
     }
 
     /// Sends the request 1 to node 3, removes the node, and adds it again. Returns whether the
-    /// response to the request is refused then, before another request is sent and after it.
+    /// responses to the request and to the heartbeat after it are refused then, before another
+    /// request is sent and after it.
     fn refuses_earlier_life(&mut self, alloc: Global) -> Result<bool, HandlerError> {
         let _sent = self.leader.next_request(&self.state, &3, 8);
         let _joint = self.change(alloc, Step::Change(&[1, 2]), None)?;
-        let _more = self.commit_upto(2, 6)?;
+        let _upto = self.commit_upto(2, 6)?;
         let _left = self.change(alloc, Step::Leave, None)?;
-        let _more = self.commit_upto(3, 7)?;
+        let _upto = self.commit_upto(3, 7)?;
         let is_gone = self.leader.member(&3).is_none();
         let is_added = self.add(alloc)?;
-        let before = self.take_first();
+        let before = (self.take_first(), self.take_beat(3, 1, empty()));
         let _sent = self.leader.next_request(&self.state, &3, 8);
         let are_right = [
             is_gone,
             is_added,
-            before == late(None),
-            self.take_first() == late(Some(4)),
+            before == (late(None), Err(ResponseError::LateHeartbeat)),
+            self.take_first() == late(Some(5)),
+            self.take_beat(3, 1, empty()) == Err(ResponseError::LateHeartbeat),
         ];
-        Ok(are_right == [true; 4])
+        Ok(are_right == [true; 5])
     }
 }
 
@@ -197,6 +225,64 @@ fn refuses<K: LeaderKind<u64>>(alloc: Global) -> Result<bool, HandlerError> {
 #[test]
 fn request_numbers_never_repeat(rt: HostRuntime) -> Result<(), Fail> {
     assert!(rt; refuses::<LeaderStd>(rt.alloc())?);
+    Ok(())
+}
+
+impl Led<LeaderStd> {
+    /// The leader 1, which is the only voter, and has committed an entry of its own. The nodes 2
+    /// and 3 are learners.
+    fn alone(alloc: Global) -> Result<Self, HandlerError> {
+        let at = id::<LeaderStd>(Some((2, 4)));
+        let members = EffectiveMembershipOf::new_arc(at, members_of(alloc, &[1])?)?;
+        let mut state = voter::<LeaderStd>(alloc)?;
+        state.membership_state = MembershipStateOf::new(members.clone()?, members);
+        let mut led = Led::<LeaderStd>::new(state)?;
+        led.leader.commit(&mut led.state)?;
+        Ok(led)
+    }
+
+    /// Removes node 3, and commits that.
+    fn remove(&mut self, alloc: Global) -> Result<bool, HandlerError> {
+        let ids: BTreeSet<u64> = Some(3).into_iter().collect(alloc)?;
+        let change = ChangeMembers::RemoveNodes(ids);
+        let made: Result<Entry<LeaderStd>, _> = self
+            .leader
+            .propose_change(&mut self.state, change, false);
+        let last = self.state.last_log_id().copied();
+        self.leader.handle_flushed(&self.state, last)?;
+        self.leader.commit(&mut self.state)?;
+        Ok(made.is_ok() && self.leader.member(&3).is_none())
+    }
+
+    /// Sends a heartbeat to node 3 and no request, removes the node, and adds it again. Returns
+    /// whether the responses to the heartbeat are refused then, and those to a later one are taken.
+    fn refuses_earlier_beats(&mut self, alloc: Global) -> Result<bool, HandlerError> {
+        let first = beat_number(self.leader.heartbeat(&self.state, &3));
+        let is_removed = self.remove(alloc)?;
+        let is_added = self.add(alloc)?;
+        let upto = Outcome::Matches(id::<LeaderStd>(Some((3, 5))));
+        let are_right = [
+            first == Some(0),
+            is_removed,
+            is_added,
+            self.take_beat(3, 0, empty()) == Err(ResponseError::LateHeartbeat),
+            self.take_beat(3, 0, upto) == Err(ResponseError::LateHeartbeat),
+            beat_number(self.leader.heartbeat(&self.state, &3)) == Some(2),
+            self.take_beat(3, 2, upto) == Ok(()),
+        ];
+        Ok(are_right == [true; 7])
+    }
+}
+
+/// Whether a leader refuses the response to a heartbeat of a node's earlier life.
+fn refuses_beats(alloc: Global) -> Result<bool, HandlerError> {
+    let mut led = Led::<LeaderStd>::alone(alloc)?;
+    led.refuses_earlier_beats(alloc)
+}
+
+#[test]
+fn heartbeat_numbers_never_repeat(rt: HostRuntime) -> Result<(), Fail> {
+    assert!(rt; refuses_beats(rt.alloc())?);
     Ok(())
 }
 

@@ -3,10 +3,10 @@
 use crate::asserts::assert_leader;
 use crate::snapshot::request;
 use crate::states::{Entry, Row, StateOf, id, voter};
-use raft_base::{EmptyNode, LeaderAdv, LeaderKind, LeaderStd, VoteOf};
+use raft_base::{EmptyNode, LeaderAdv, LeaderKind, LeaderStd, LogIdOf, VoteOf};
 use raft_handlers::{
-    FlushError, HandlerError, Leader, Outcome, ProposeError, Response, ResponseError,
-    SnapshotError, handle_install_snapshot,
+    FlushError, HandlerError, Heartbeat, Leader, Outcome, ProposeError, RequestNumber, Response,
+    ResponseError, SnapshotError, handle_install_snapshot,
 };
 use raft_progress::{InflightError, InflightOf, Progress};
 use std::alloc::{AllocError, Global};
@@ -28,10 +28,16 @@ pub struct Led<K: LeaderKind<u64>, F = LeaderOf<K>> {
 pub enum Step {
     /// It may send to a node.
     Send(u64),
+    /// It sends a heartbeat to a node.
+    Beat(u64),
     /// A node acknowledges a request up to a row.
     Take(u64, u64, Row),
     /// A node's log conflicts with a request at an index, and is empty then.
     Conflict(u64, u64, u64),
+    /// A node acknowledges a heartbeat with a number up to a row.
+    TakeBeat(u64, u64, Row),
+    /// A node's log conflicts with a heartbeat with a number at an index, and is empty then.
+    BeatConflict(u64, u64, u64),
     /// A node has promised a higher vote.
     Depose(u64),
     /// A node acknowledges a request of the leader of term 2.
@@ -56,7 +62,11 @@ pub enum Right {
     /// A request with this number has the snapshot up to a row.
     Snapshot(u64, Row),
     Heartbeat,
+    /// A heartbeat with this number asks for a row.
+    Beat(u64, Row),
     NoMember,
+    /// The log is committed up to this row then.
+    Commits(Row),
     Done,
     Nothing,
     Refused(HandlerError),
@@ -76,9 +86,28 @@ fn sent<K: LeaderKind<u64>>(right: Right) -> Option<InflightOf<K::Committed>> {
     }
 }
 
+/// What a heartbeat says, if it is right.
+fn beat<K: LeaderKind<u64>>(right: Right) -> Option<Heartbeat<K::Committed>> {
+    match right {
+        Right::Beat(number, prev) => Some(Heartbeat {
+            request: RequestNumber::Heartbeat(number),
+            prev: id::<K>(prev),
+        }),
+        _ => None,
+    }
+}
+
+/// What a commit returns, if it is right.
+fn committed<K: LeaderKind<u64>>(right: Right) -> Option<LogIdOf<K::Committed>> {
+    match right {
+        Right::Commits(upto) => id::<K>(upto),
+        _ => None,
+    }
+}
+
 /// Makes a state's node the leader again, which appends a blank entry (3, 5) and has it on disk.
 fn leader_of<K: LeaderKind<u64>>(state: &mut StateOf<K>) -> Result<LeaderOf<K>, HandlerError> {
-    let mut leader = Leader::resume(1, state)?;
+    let mut leader = Leader::resume(1, state, 0)?;
     let _entry: Entry<K> = leader.propose_blank(state)?;
     leader.handle_flushed(state, id::<K>(Some((3, 5))))?;
     Ok(leader)
@@ -92,29 +121,51 @@ impl<K: LeaderKind<u64>> Led<K> {
         Ok(Led { state, leader })
     }
 
-    /// Takes the response of a node.
+    /// The leader leads on anew with its log, and has used no number past 7.
+    fn resume(&mut self) -> Result<(), HandlerError> {
+        self.leader = Leader::resume(1, &self.state, 7)?;
+        self.leader.handle_flushed(&self.state, id::<K>(END))?;
+        Ok(())
+    }
+
+    /// Takes the response of a node to a request with a number.
+    fn respond(
+        &mut self,
+        from: u64,
+        request: RequestNumber,
+        outcome: Outcome<K::Leader, K::Committed>,
+    ) -> Result<(), ResponseError> {
+        let response = Response {
+            leader_id: self.leader.leader_id(),
+            request,
+            outcome,
+        };
+        self.leader.handle_response(&from, &response)
+    }
+
+    /// Takes the response of a node to a request that was in flight.
     pub fn take(
         &mut self,
         from: u64,
         request: u64,
         outcome: Outcome<K::Leader, K::Committed>,
     ) -> Result<(), ResponseError> {
-        let response = Response {
-            leader_id: self.leader.leader_id(),
-            request: Some(request),
-            outcome,
-        };
-        self.leader.handle_response(&from, &response)
+        self.respond(from, RequestNumber::InFlight(request), outcome)
+    }
+
+    /// Takes the response of a node to a heartbeat.
+    pub fn take_beat(
+        &mut self,
+        from: u64,
+        number: u64,
+        outcome: Outcome<K::Leader, K::Committed>,
+    ) -> Result<(), ResponseError> {
+        self.respond(from, RequestNumber::Heartbeat(number), outcome)
     }
 
     /// Appends an entry with data.
     pub fn propose(&mut self) -> Result<Entry<K>, ProposeError> {
         self.leader.propose(&mut self.state, 7)
-    }
-
-    /// Commits, and returns whether something new is committed.
-    fn commit(&mut self) -> Option<bool> {
-        self.leader.commit(&mut self.state).ok()
     }
 
     /// Hears of a higher vote, and returns whether the leader must step down then, and not before.
@@ -129,7 +180,7 @@ impl<K: LeaderKind<u64>> Led<K> {
     fn take_foreign(&mut self, from: u64, request: u64, upto: Row) -> Result<(), ResponseError> {
         let response = Response::<K::Leader, K::Committed> {
             leader_id: K::new_committed(2, 2),
-            request: Some(request),
+            request: RequestNumber::InFlight(request),
             outcome: Outcome::Matches(id::<K>(upto)),
         };
         self.leader.handle_response(&from, &response)
@@ -144,6 +195,12 @@ impl<K: LeaderKind<u64>> Led<K> {
             Step::Conflict(from, request, index) => {
                 self.take(from, request, Outcome::Conflict { index, last: None })?;
             }
+            Step::TakeBeat(from, number, upto) => {
+                self.take_beat(from, number, Outcome::Matches(id::<K>(upto)))?;
+            }
+            Step::BeatConflict(from, number, index) => {
+                self.take_beat(from, number, Outcome::Conflict { index, last: None })?;
+            }
             Step::Depose(from) => {
                 let vote = VoteOf::<u64, K>::new(4, 2);
                 self.take(from, 1, Outcome::HigherVote(vote))?;
@@ -155,7 +212,7 @@ impl<K: LeaderKind<u64>> Led<K> {
                 let _entry = self.propose()?;
             }
             // `meets` compares what these return.
-            Step::Send(_) | Step::Commit | Step::Own | Step::Promise => (),
+            Step::Send(_) | Step::Beat(_) | Step::Commit | Step::Own | Step::Promise => (),
         }
         Ok(())
     }
@@ -166,7 +223,8 @@ impl<K: LeaderKind<u64>> Led<K> {
             (Step::Send(to), _) => {
                 self.leader.next_request(&self.state, &to, 8) == sent::<K>(right)
             }
-            (Step::Commit, _) => self.commit() == Some(matches!(right, Right::Done)),
+            (Step::Beat(to), _) => self.leader.heartbeat(&self.state, &to) == beat::<K>(right),
+            (Step::Commit, _) => self.leader.commit(&mut self.state) == Ok(committed::<K>(right)),
             (Step::Own, _) => self.leader.has_own_granted() == matches!(right, Right::Done),
             (Step::Promise, _) => self.promise(),
             (_, Right::Refused(refusal)) => self.make(step) == Err(refusal),
@@ -233,6 +291,10 @@ const PAST: Right = Right::Refused(HandlerError::Response(ResponseError::Infligh
     InflightError::AckOutOfRange,
 )));
 
+const TOO_LARGE: Right = Right::Refused(HandlerError::Response(ResponseError::Inflight(
+    InflightError::IndexTooLarge,
+)));
+
 const END: Row = Some((3, 5));
 
 /// What a leader meets that has all of its log.
@@ -270,7 +332,7 @@ pub const LIFE: &[(&str, Step, Right)] = &[
     ("its own", Step::Take(2, 1, END), Right::Done),
     ("its own is granted", Step::Own, Right::Done),
     ("a doubled response", Step::Take(2, 1, END), DOUBLED),
-    ("its own are committed", Step::Commit, Right::Done),
+    ("its own are committed", Step::Commit, Right::Commits(END)),
     ("only once", Step::Commit, Right::Nothing),
     ("another node", Step::Send(3), Right::Logs(1, None, END)),
     ("it is lost", Step::GiveUp(3), Right::Done),
@@ -297,6 +359,64 @@ pub const LIFE: &[(&str, Step, Right)] = &[
         Step::Flush(END),
         Right::Refused(HandlerError::Flush(FlushError::NotLeader)),
     ),
+];
+
+/// The response to a heartbeat before the last request.
+const LATE_HEARTBEAT: Right = Right::Refused(HandlerError::Response(ResponseError::LateHeartbeat));
+
+/// A conflict that would end the search below what matches.
+const BELOW: Right = Right::Refused(HandlerError::Response(ResponseError::Inflight(
+    InflightError::ConflictBelowMatching,
+)));
+
+/// The last log id before the leader's own.
+const OLD: Row = Some((2, 4));
+
+/// What a leader meets whose heartbeats are answered.
+pub const HEARTBEATS: &[(&str, Step, Right)] = &[
+    ("before any request", Step::Beat(2), Right::Beat(0, OLD)),
+    ("no member", Step::Beat(9), Right::NoMember),
+    ("a request", Step::Send(2), Right::Logs(1, None, END)),
+    ("a late match", Step::TakeBeat(2, 0, OLD), LATE_HEARTBEAT),
+    ("a late conflict", Step::BeatConflict(2, 0, 4), LATE_HEARTBEAT),
+    ("after the request", Step::Beat(2), Right::Beat(1, OLD)),
+    ("it matches", Step::TakeBeat(2, 1, OLD), Right::Done),
+    ("the request is dropped", Step::Take(2, 1, END), DOUBLED),
+    ("no own entry matches", Step::Commit, Right::Nothing),
+    ("the rest", Step::Send(2), Right::Logs(2, OLD, END)),
+    ("the rest matches", Step::TakeBeat(2, 2, END), Right::Done),
+    ("its own are committed", Step::Commit, Right::Commits(END)),
+    ("a lesser match", Step::TakeBeat(2, 2, OLD), Right::Done),
+    ("nothing more to send", Step::Send(2), Right::Heartbeat),
+    ("below the match", Step::BeatConflict(2, 2, 5), BELOW),
+    ("the greatest index", Step::TakeBeat(3, 0, Some((3, u64::MAX))), TOO_LARGE),
+    ("a conflict", Step::BeatConflict(3, 0, 4), Right::Done),
+    ("the search ends there", Step::Beat(3), Right::Beat(0, None)),
+    (
+        "a response of no member",
+        Step::TakeBeat(9, 0, END),
+        Right::Refused(HandlerError::Response(ResponseError::UnknownMember)),
+    ),
+];
+
+/// What a leader meets that leads on after a restart, and has used no number past 7.
+const RESUMED: &[(&str, Step, Right)] = &[
+    ("a request", Step::Send(3), Right::Logs(8, None, END)),
+    (
+        "a response from before the restart",
+        Step::Take(3, 1, END),
+        Right::Refused(HandlerError::Response(ResponseError::Inflight(
+            InflightError::InvalidRequestId {
+                mine: Some(8),
+                received: 1,
+            },
+        ))),
+    ),
+    ("another node", Step::Beat(2), Right::Beat(7, END)),
+    ("a heartbeat from before it", Step::TakeBeat(2, 1, END), LATE_HEARTBEAT),
+    ("its own are not granted", Step::Commit, Right::Nothing),
+    ("they match", Step::TakeBeat(2, 7, END), Right::Done),
+    ("a quorum has them", Step::Commit, Right::Commits(END)),
 ];
 
 /// The row up to which there is a snapshot.
@@ -353,10 +473,40 @@ fn lost_snapshot<K: LeaderKind<u64>>(alloc: Global) -> Result<Option<String>, Ha
     Ok(led.shown(alloc, wrong)?)
 }
 
+/// Returns the name of the first row of heartbeats with another result, with the leader below it.
+fn beats<K: LeaderKind<u64>>(alloc: Global) -> Result<Option<String>, HandlerError> {
+    let mut led = Led::<K>::new(voter::<K>(alloc)?)?;
+    let wrong = led.fails(HEARTBEATS);
+    Ok(led.shown(alloc, wrong)?)
+}
+
+/// Returns the name of the first row of a leader that leads on with another result, with the leader
+/// below it.
+fn resumes<K: LeaderKind<u64>>(alloc: Global) -> Result<Option<String>, HandlerError> {
+    let mut led = Led::<K>::new(voter::<K>(alloc)?)?;
+    led.resume()?;
+    let wrong = led.fails(RESUMED);
+    Ok(led.shown(alloc, wrong)?)
+}
+
 #[test]
 fn a_leader_sends_and_commits(rt: HostRuntime) -> Result<(), Fail> {
     assert_leader(&rt, "default leader ids", life::<LeaderAdv>(rt.alloc())?);
     assert_leader(&rt, "standard leader ids", life::<LeaderStd>(rt.alloc())?);
+    Ok(())
+}
+
+#[test]
+fn heartbeats_raise_matches(rt: HostRuntime) -> Result<(), Fail> {
+    assert_leader(&rt, "default leader ids", beats::<LeaderAdv>(rt.alloc())?);
+    assert_leader(&rt, "standard leader ids", beats::<LeaderStd>(rt.alloc())?);
+    Ok(())
+}
+
+#[test]
+fn a_leader_leads_on(rt: HostRuntime) -> Result<(), Fail> {
+    assert_leader(&rt, "default leader ids", resumes::<LeaderAdv>(rt.alloc())?);
+    assert_leader(&rt, "standard leader ids", resumes::<LeaderStd>(rt.alloc())?);
     Ok(())
 }
 

@@ -157,6 +157,10 @@ const REFUSALS: &[(HandlerError, &str)] = &[
         "the member has promised a higher vote",
     ),
     (
+        HandlerError::Response(ResponseError::LateHeartbeat),
+        "the response is to a heartbeat before the last request",
+    ),
+    (
         HandlerError::Response(ResponseError::Inflight(InflightError::AckOutOfRange)),
         "ack out of range",
     ),

@@ -1,7 +1,7 @@
 //! States of servers, as plain rows over any kind of leader ids. The nodes are 1, 2 and 3.
 
 use raft_base::{EmptyNode, LeaderKind, LogIdOf, LogStateReader, UTime, VoteOf};
-use raft_handlers::{Outcome, Response, State};
+use raft_handlers::{Outcome, RequestNumber, Response, State};
 use raft_members::Membership;
 use raft_state::{EntryOf, EntryPayload, LogIdListOf, is_key_list};
 use raft_testing::memory::both_made;
@@ -142,7 +142,7 @@ pub fn due<K: LeaderKind<u64>, E: Copy>(
     };
     Ok(Response {
         leader_id: K::new_committed(term, 1),
-        request: Some(7),
+        request: RequestNumber::InFlight(7),
         outcome,
     })
 }

@@ -8,7 +8,8 @@ use crate::states::{StateOf, entries, id, voter};
 use raft_base::leader_id_std::{CommittedLeaderId, LeaderId};
 use raft_base::{EmptyNode, LeaderStd, VoteOf};
 use raft_handlers::{
-    AppendEntries, HandlerError, Leader, Outcome, Response, VoteRequest, VoteResponse,
+    AppendEntries, HandlerError, Leader, Outcome, RequestNumber, Response, VoteRequest,
+    VoteResponse,
 };
 use raft_state::SnapshotMetaOf;
 use raft_testing::facts::first_wrong;
@@ -22,7 +23,7 @@ type Append = AppendEntries<LeaderId<u64>, CommittedLeaderId, u64, EmptyNode, u6
 
 /// What a request with a blank entry prints.
 const APPEND: &str =
-    "AppendEntries { leader_id: LeaderId { term: 3, voted_for: Some(1) }, request: Some(7), \
+    "AppendEntries { leader_id: LeaderId { term: 3, voted_for: Some(1) }, request: InFlight(7), \
     prev: None, entries: [Entry { log_id: LogId { leader_id: CommittedLeaderId { term: 3 }, \
     index: 0 }, payload: blank }], committed: None }";
 
@@ -67,7 +68,7 @@ fn begins<T: Debug>(alloc: Global, value: &T, text: &str) -> bool {
 fn append_prints(alloc: Global) -> Result<bool, AllocError> {
     let request = Append {
         leader_id: VoteOf::<u64, LeaderStd>::new(3, 1).leader_id,
-        request: Some(7),
+        request: RequestNumber::InFlight(7),
         prev: None,
         entries: entries::<LeaderStd>(alloc, &[(3, 0)])?,
         committed: None,
@@ -95,7 +96,7 @@ fn vote_response(granted: bool) -> VoteResponse<LeaderId<u64>> {
 
 /// A response to a leader of term 3.
 fn response(
-    request: Option<u64>,
+    request: RequestNumber,
     outcome: Outcome<LeaderId<u64>, CommittedLeaderId>,
 ) -> Response<LeaderId<u64>, CommittedLeaderId> {
     let leader_id = CommittedLeaderId::new(3, 1);
@@ -154,7 +155,7 @@ fn wrong_message(alloc: Global) -> Option<&'static str> {
             "a match",
             displays(
                 alloc,
-                &response(Some(7), Outcome::Matches(last_log_id)),
+                &response(RequestNumber::InFlight(7), Outcome::Matches(last_log_id)),
                 "response 7, leader 3, matches 2-4",
             ),
         ),
@@ -162,7 +163,7 @@ fn wrong_message(alloc: Global) -> Option<&'static str> {
             "a conflict",
             displays(
                 alloc,
-                &response(Some(8), conflict),
+                &response(RequestNumber::InFlight(8), conflict),
                 "response 8, leader 3, conflict at 5, last index 3",
             ),
         ),
@@ -170,8 +171,8 @@ fn wrong_message(alloc: Global) -> Option<&'static str> {
             "a higher vote",
             displays(
                 alloc,
-                &response(None, Outcome::HigherVote(vote)),
-                "response None, leader 3, higher vote T3-N1:uncommitted",
+                &response(RequestNumber::Heartbeat(9), Outcome::HigherVote(vote)),
+                "response heartbeat 9, leader 3, higher vote T3-N1:uncommitted",
             ),
         ),
     ])

@@ -1,11 +1,13 @@
 //! First callers of the handlers, as the page for callers shows them.
-ghost use Rattle.std.specs.Prelude.{◌≡◌, ◌∷◌, [], Some, true, IfOk, IsSome, IsTrue};
+ghost use Rattle.std.specs.Prelude.{◌≡◌, ◌∷◌, [], ℕ, Some, true, IfOk, IsTrue};
 ghost use Rattle.std.specs.Option.{option_cmp};
 ghost use Rattle.std.specs.Ordering.{is_le};
 ghost use Rattle.std.specs.Set.{ClonesAreEqual};
 ghost use Rattle.raft_base.specs.LeaderIdStd.{std_log_id_cmp};
 ghost use Rattle.raft_handlers.specs.Append.{has_all, last_id_of_request};
+ghost use Rattle.raft_base.specs.LogId.{id_le};
 ghost use Rattle.raft_handlers.specs.Leadership.{entry_of};
+ghost use Rattle.raft_handlers.specs.declared.message.RequestNumber.TheVariants.{InFlight};
 ghost use Rattle.raft_progress.specs.declared.entry.ProgressEntryOf.{ProgressEntryOf};
 ghost use Rattle.raft_state.specs.membership_state.Memberships.{in_effect};
 ghost use Rattle.raft_state.specs.raft_state.Sound.{purged_or_logged};
@@ -45,15 +47,17 @@ pub fn elects_itself(id: u64, state: &mut Server) -> Result<bool, CampaignError>
 }
 
 /// Leads on with a blank entry of its own, which it commits once a quorum has the entry on disk.
-/// Returns the log id of the entry. The only voter has committed the entry then.
+/// Returns the log id of the entry. The only voter has committed the entry then. Requests are numbered
+/// after `last_request`, which is at least each number that the node has used in this term.
 pub fn commits_alone(
     id: u64,
     state: &mut Server,
+    last_request: u64,
 ) -> Result<LogIdOf<CommittedLeaderId>, HandlerError>
     ensures alone { (in_effect state.old.membership_state).configs ≡ (id ∷ []) ∷ [] → IfOk result
         (λ own. IsTrue (is_le (option_cmp std_log_id_cmp (Some own) state.new.committed))) }
 {
-    let mut leader = Leader::resume(id, state)?;
+    let mut leader = Leader::resume(id, state, last_request)?;
     let entry: Entry = leader.propose_blank(state)?;
     // Here a program writes the entry to disk.
     leader.handle_flushed(state, Some(entry.log_id))?;
@@ -63,7 +67,8 @@ pub fn commits_alone(
 
 /// A member takes a request that its leader has put in flight, and the leader takes the response.
 /// Returns whether the member's log matches the leader's up to the last log id of the request. If it
-/// does, the member has every entry of the request, and the leader knows that.
+/// does, the member has every entry of the request, and the leader knows that. If the request is a
+/// heartbeat, the leader may know of more.
 pub fn replicates<
     NID: NodeId,
     N: Node,
@@ -80,11 +85,16 @@ pub fn replicates<
     requires clones_are_equal { ClonesAreEqual N.eq N.is_clone }
     ensures has { IfOk result (λ matches. IsTrue matches →
         IsTrue (has_all C.eq state.new request.now.entries.items)) }
-    ensures knows { IfOk result (λ matches. IsTrue matches → IsSome request.now.request →
+    ensures knows { IfOk result (λ matches. IsTrue matches →
+        (number : ℕ) → request.now.request ≡ InFlight number →
         (entry : ProgressEntryOf C) → entry_of NID.eq leader.new member.now ≡ Some entry →
         entry.matching ≡ last_id_of_request request.now.prev request.now.entries.items) }
+    ensures knows_as_much { IfOk result (λ matches. IsTrue matches →
+        (entry : ProgressEntryOf C) → entry_of NID.eq leader.new member.now ≡ Some entry →
+        IsTrue (id_le C.cmp
+        (last_id_of_request request.now.prev request.now.entries.items) entry.matching)) }
     ensures knows_what_is_there { IfOk result (λ matches. IsTrue matches →
-        IsSome request.now.request →
+        (number : ℕ) → request.now.request ≡ InFlight number →
         (entry : ProgressEntryOf C) → entry_of NID.eq leader.new member.now ≡ Some entry →
         IsTrue (purged_or_logged C.eq state.new entry.matching)) }
 {
