@@ -43,7 +43,11 @@ const ROWS: &[(&str, Step, Right)] = &[
     ("no learner", Step::Change(&[1, 4]), Right::LearnerNotFound),
     ("joint", Step::Change(&[1, 2]), Right::Appends(Some((3, 6)))),
     ("soon", Step::Leave, Right::InProgress),
-    ("committed", Step::Commit(2, 6), Right::Commits(Some((3, 6)))),
+    (
+        "committed",
+        Step::Commit(2, 6),
+        Right::Commits(Some((3, 6))),
+    ),
     ("left", Step::Leave, Right::Appends(Some((3, 7)))),
     ("the end", Step::Commit(3, 7), Right::Commits(Some((3, 7)))),
 ];

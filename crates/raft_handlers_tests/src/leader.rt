@@ -378,7 +378,11 @@ pub const HEARTBEATS: &[(&str, Step, Right)] = &[
     ("no member", Step::Beat(9), Right::NoMember),
     ("a request", Step::Send(2), Right::Logs(1, None, END)),
     ("a late match", Step::TakeBeat(2, 0, OLD), LATE_HEARTBEAT),
-    ("a late conflict", Step::BeatConflict(2, 0, 4), LATE_HEARTBEAT),
+    (
+        "a late conflict",
+        Step::BeatConflict(2, 0, 4),
+        LATE_HEARTBEAT,
+    ),
     ("after the request", Step::Beat(2), Right::Beat(1, OLD)),
     ("it matches", Step::TakeBeat(2, 1, OLD), Right::Done),
     ("the request is dropped", Step::Take(2, 1, END), DOUBLED),
@@ -389,7 +393,11 @@ pub const HEARTBEATS: &[(&str, Step, Right)] = &[
     ("a lesser match", Step::TakeBeat(2, 2, OLD), Right::Done),
     ("nothing more to send", Step::Send(2), Right::Heartbeat),
     ("below the match", Step::BeatConflict(2, 2, 5), BELOW),
-    ("the greatest index", Step::TakeBeat(3, 0, Some((3, u64::MAX))), TOO_LARGE),
+    (
+        "the greatest index",
+        Step::TakeBeat(3, 0, Some((3, u64::MAX))),
+        TOO_LARGE,
+    ),
     ("a conflict", Step::BeatConflict(3, 0, 4), Right::Done),
     ("the search ends there", Step::Beat(3), Right::Beat(0, None)),
     (
@@ -413,7 +421,11 @@ const RESUMED: &[(&str, Step, Right)] = &[
         ))),
     ),
     ("another node", Step::Beat(2), Right::Beat(7, END)),
-    ("a heartbeat from before it", Step::TakeBeat(2, 1, END), LATE_HEARTBEAT),
+    (
+        "a heartbeat from before it",
+        Step::TakeBeat(2, 1, END),
+        LATE_HEARTBEAT,
+    ),
     ("its own are not granted", Step::Commit, Right::Nothing),
     ("they match", Step::TakeBeat(2, 7, END), Right::Done),
     ("a quorum has them", Step::Commit, Right::Commits(END)),
@@ -506,7 +518,11 @@ fn heartbeats_raise_matches(rt: HostRuntime) -> Result<(), Fail> {
 #[test]
 fn a_leader_leads_on(rt: HostRuntime) -> Result<(), Fail> {
     assert_leader(&rt, "default leader ids", resumes::<LeaderAdv>(rt.alloc())?);
-    assert_leader(&rt, "standard leader ids", resumes::<LeaderStd>(rt.alloc())?);
+    assert_leader(
+        &rt,
+        "standard leader ids",
+        resumes::<LeaderStd>(rt.alloc())?,
+    );
     Ok(())
 }
 
