@@ -1,6 +1,6 @@
 -- What the only voter decides alone.
 use Rattle.std.specs.Prelude.{◌≡◌, ◌<◌, ◌&&◌, ℕ, Bool, true, false, IsTrue, Option, Some, None, is_some, List, [], ◌∷◌, length}
-use Rattle.std.specs.Prelude.{cond, refl}
+use Rattle.std.specs.Prelude.{cond, if◌then◌else◌, refl}
 use Rattle.std.specs.Cmp.{IsEquivalence, IsTotalOrder}
 use Rattle.std.specs.Option.{option_map_or}
 use Rattle.std.specs.Ordering.{is_le, nat_cmp, ordering_reverse, ordering_then}
@@ -104,14 +104,23 @@ module _ {K N C : Type 0} (eq : K → K → Bool) (by : OrdMembers C) (total : I
           (nat_cmp g.index own.index) (subst (λ o. is_le (ordering_then o (nat_cmp own.index g.index)) ≡ true)
           (total.antisymm own.leader_id g.leader_id) above) below)
 
-  own_committed : {I L : Type 0} (old new : RaftStateIn K N I L C) (more : Bool) → own.leader_id ≡ l.leader_id
-      → Commits eq by l old new more → id_le by.cmp (Some own) new.committed ≡ true
-  own_committed old new true mine c =
+  -- if nothing new is committed, and what is granted is of the leader and not less than its own, no commit is due
+  not_below : (of_leader below : Bool) (g : Option (LogIdOf C)) → of_leader ≡ true
+      → (let none : Option (LogIdOf C) = None in none ≡ (if of_leader && below then g else None))
+      → id_le by.cmp (Some own) g ≡ true → below ≡ false
+  not_below true false g is answer granted = refl
+  not_below true true None is answer granted = cc
+  not_below true true (Some g) is answer granted = cc
+  not_below false below g is answer granted = cc
+
+  own_committed : {I L : Type 0} (old new : RaftStateIn K N I L C) (upto : Option (LogIdOf C)) → own.leader_id ≡ l.leader_id
+      → Commits eq by l old new upto → id_le by.cmp (Some own) new.committed ≡ true
+  own_committed old new (Some upto) mine c =
       subst (λ (g : Option (LogIdOf C)). id_le by.cmp (Some own) g ≡ true) (sym (c.is_granted refl)) own_granted
-  own_committed {I} {L} old new false mine c =
+  own_committed {I} {L} old new None mine c =
       let not_due : id_lt by.cmp old.committed (granted_by l) ≡ false =
-      sym (c.answer ∙ ap (λ b. b && id_lt by.cmp old.committed (granted_by l))
-      (subst (λ leader. is_of_leader by.eq leader (granted_by l) ≡ true) mine of_leader)) in
+      not_below (is_of_leader by.eq l.leader_id (granted_by l)) (id_lt by.cmp old.committed (granted_by l)) (granted_by l)
+      (subst (λ leader. is_of_leader by.eq leader (granted_by l) ≡ true) mine of_leader) c.answer own_granted in
       let order = optional-log_id_cmp-total total in
       subst (λ (s : RaftStateIn K N I L C). id_le by.cmp (Some own) s.committed ≡ true) (sym c.committed)
       (AtMost-trans order (Some own) (granted_by l) old.committed own_granted
@@ -120,16 +129,16 @@ module _ {K N C : Type 0} (eq : K → K → Bool) (by : OrdMembers C) (total : I
 -- the only voter that leads has committed an entry of its own, once it has counted it
 pub alone_commits : {K N I L C : Type 0} {eq : K → K → Bool} → IsEquivalence eq → (by : OrdMembers C) → IsTotalOrder by.cmp
     → ((x y : C) → by.cmp x y ≡ Equal → by.eq x y ≡ true) → (same : N → N → Bool) (id : K) (leader : C)
-    (start old new : RaftStateIn K N I L C) (l flushed : Leadership K N C) (own : LogIdOf C) (more : Bool)
-    → BeginsToLead eq same id leader start l → (in_effect start.membership_state).configs ≡ (id ∷ []) ∷ []
+    (last : ℕ) (start old new : RaftStateIn K N I L C) (l flushed : Leadership K N C) (own : LogIdOf C)
+    (upto : Option (LogIdOf C)) → BeginsToLead eq same id leader last start l → (in_effect start.membership_state).configs ≡ (id ∷ []) ∷ []
     → ((entry : ProgressEntryOf C) → entry_of eq l l.id ≡ Some entry → IsTrue (id_le by.cmp entry.matching (Some own))
     → WritesEntry eq l l.id (flushed_entry (Some own)) flushed)
-    → own.leader_id ≡ l.leader_id → Commits eq by flushed old new more → id_le by.cmp (Some own) new.committed ≡ true
-alone_commits {K} {N} {I} {L} {C} {eq} laws by total ties same id leader start old new l flushed own more begins only counts mine c =
+    → own.leader_id ≡ l.leader_id → Commits eq by flushed old new upto → id_le by.cmp (Some own) new.committed ≡ true
+alone_commits {K} {N} {I} {L} {C} {eq} laws by total ties same id leader last start old new l flushed own upto begins only counts mine c =
     own_committed eq by total ties flushed l.id own
     (ap (λ m. m.configs) wrote.member.members ∙ begins.configs ∙ alone)
     (wrote.member.entries l.id ∙ ap (λ b. cond b (Some (flushed_entry (Some own))) (entry_of eq l l.id)) (laws.refl l.id))
-    c.greatest old new more (mine ∙ sym (ap (λ (k : Leadership K N C). k.leader_id) wrote.rest)) c
+    c.greatest old new upto (mine ∙ sym (ap (λ (k : Leadership K N C). k.leader_id) wrote.rest)) c
   where
     alone : (in_effect start.membership_state).configs ≡ (l.id ∷ []) ∷ []
     alone = only ∙ ap (λ k. (k ∷ []) ∷ []) (sym begins.node)

@@ -9,7 +9,7 @@ pub returns : goal.returns
 returns c = record {
   alone = λ configs.
       alone_commits nat_eq_equiv _ (on_total (λ (a : CommittedLeaderId). a.term) nat_cmp_total)
-      (λ x y tie. unsigned_ties x.term y.term ∙ ap is_eq tie) _ _ _ _ _ _ _ _ _ _ c.in_ok-leader.ensures.begins configs
+      (λ x y tie. unsigned_ties x.term y.term ∙ ap is_eq tie) _ _ _ _ _ _ _ _ _ _ _ c.in_ok-leader.ensures.begins configs
       c.in_ok-handle_flushed.ensures.counted (ap (λ e. e.log_id.leader_id) c.in_ok-entry.ensures.appended.is_next)
       c.in_ok-commit.ensures.committed;
 }
