@@ -18,8 +18,9 @@ use Rattle.std.specs.Prelude.{
   IfOk,
   if◌then◌else◌,
 }
+use Rattle.std.specs.Option.{option_map}
 use Rattle.std.specs.Ordering.{partial_ge}
-use Rattle.std.proofs.Common.{sym, ap, subst, ◌∙◌, inl, inr}
+use Rattle.std.proofs.Common.{refl, sym, ap, subst, ◌∙◌, inl, inr}
 use Rattle.std.proofs.lemmas.Bool.{and_parts}
 use Rattle.raft_base.specs.LogId.{next_index}
 use Rattle.raft_base.specs.UTime.{moment_of, utime_of}
@@ -30,22 +31,25 @@ use Rattle.raft_handlers.specs.Append.{Answers, IfHigherVote}
 use Rattle.raft_handlers.specs.Campaign.{Campaign, Campaigns, CountsVoteOf, grants_vote, same_vote}
 use Rattle.raft_handlers.specs.Compared.{LeaderMembers, compared}
 use Rattle.raft_handlers.specs.Follow.{heard, is_followed, vote_heard}
-use Rattle.raft_handlers.specs.Leadership.{BecomesLeader, Commits, Leadership, is_leading}
+use Rattle.raft_handlers.specs.Leadership.{BecomesLeader, Commits, Leadership, entry_of, is_leading}
 use Rattle.raft_handlers.specs.Proposals.{AppendsOwn}
-use Rattle.raft_handlers.specs.Responses.{SendsNext}
+use Rattle.raft_handlers.specs.Responses.{SendsNext, heartbeat_to}
 use Rattle.raft_handlers.specs.Restart.{Restores}
 use Rattle.raft_handlers.specs.Snapshot.{AnswersSnapshot, RefusedFor, snapshot_refusal}
 use Rattle.raft_handlers.specs.Vote.{Grants}
 use Rattle.raft_handlers.specs.declared.error.AppendError.{AppendError}
 use Rattle.raft_handlers.specs.declared.message.AppendEntries.{AppendEntries}
+use Rattle.raft_handlers.specs.declared.message.Heartbeat.{Heartbeat}
 use Rattle.raft_handlers.specs.declared.message.InstallSnapshot.{InstallSnapshot}
 use Rattle.raft_handlers.specs.declared.message.Outcome.{Outcome}
 use Rattle.raft_handlers.specs.declared.message.Outcome.TheVariants.{HigherVote, Matches}
+use Rattle.raft_handlers.specs.declared.message.RequestNumber.TheVariants.{InFlight}
 use Rattle.raft_handlers.specs.declared.message.Response.{Response}
 use Rattle.raft_handlers.specs.declared.error.SnapshotError.{SnapshotError}
 use Rattle.raft_handlers.specs.declared.message.VoteRequest.{VoteRequest}
 use Rattle.raft_handlers.specs.declared.message.VoteResponse.{VoteResponse}
 use Rattle.raft_progress.specs.progress.Comparisons.{OrdMembers}
+use Rattle.raft_progress.specs.declared.entry.ProgressEntryOf.{ProgressEntryOf}
 use Rattle.raft_progress.specs.declared.inflight.InflightOf.{InflightOf}
 use Rattle.raft_safety.specs.Ranks.{IsAmong}
 use Rattle.raft_state.specs.SnapshotMeta.{IsSnapshotCopy}
@@ -68,6 +72,7 @@ use Rattle.raft_refinement.specs.Called.{
   CountIsStep,
   ElectionIsStep,
   HearingIsStep,
+  HeartbeatIsStep,
   InstallIsStep,
   ProposalIsStep,
   RestartIsStep,
@@ -85,6 +90,7 @@ use Rattle.raft_refinement.specs.Running.{
   OneCount,
   OneElection,
   OneHearing,
+  OneHeartbeat,
   OneProposal,
   OneRestart,
   OneSend,
@@ -207,7 +213,7 @@ module _ {K N L C : Type 0} (I D : Type 0) (ids : OrdMembers K) (node_eq : N →
       → (r : Result (Response L C × X) SnapshotError) → (is_followed kind.order request.leader_id old ≡ false → r ≡ Ok (
         record {
           leader_id = kind.committed request.leader_id;
-          request = Some request.request;
+          request = InFlight request.request;
           outcome = HigherVote (vote_of old);
         },
         nothing,
@@ -370,9 +376,43 @@ module _ {K N L C : Type 0} (I D : Type 0) (ids : OrdMembers K) (node_eq : N →
   send_steps before after state to most keys (Some sending) call = send_step before after state to most sending keys call
   send_steps before after state to most keys None call = tt
 
-  commit_step : (leader : Leadership K N C) (old new : RaftStateIn K N I L C) (more : Bool) → Keeps logs old new
-      → Commits ids.eq logs leader old new more → CommitIsStep D ids node_eq kind logs leader old new
-  commit_step leader old new more keeps call c s w v at leads fixed true_matches =
+  heartbeat_step : (leader : Leadership K N C) (state : RaftStateIn K N I L C) (to : K) (entry : ProgressEntryOf C)
+      → may_be_keys logs.cmp state.log_ids ≡ true → entry_of ids.eq leader to ≡ Some entry
+      → HeartbeatIsStep D ids node_eq kind logs leader state (heartbeat_to (log_view_of state) entry)
+  heartbeat_step leader state to entry keys known c s w v request at leads is_own prev none committed =
+      steps c s w v state state _ _ at (record { sound = λ is. is; keys = keys })
+      (OneHeartbeat (record {
+        leader = leader;
+        leads = leads;
+        to = to;
+        entry = entry;
+        known = known;
+        request = request;
+        is_own = is_own ∙ ap (λ (a : RaftStateIn K N I L C). (vote_of a).leader_id) (sym at.before);
+        prev = prev ∙ ap (λ (a : RaftStateIn K N I L C). (heartbeat_to (log_view_of a) entry).prev) (sym at.before);
+        no_entries = none;
+        committed = committed ∙ ap (λ (a : RaftStateIn K N I L C). a.committed) (sym at.before);
+        state = at.after ∙ sym at.before;
+        campaign = at.has_campaign;
+        sends = at.sent;
+      }))
+
+  pub heartbeat_steps : (leader : Leadership K N C) (state : RaftStateIn K N I L C) (to : K)
+      → may_be_keys logs.cmp state.log_ids ≡ true → (r : Option (Heartbeat C))
+      → r ≡ option_map (heartbeat_to (log_view_of state)) (entry_of ids.eq leader to)
+      → IfSome r (HeartbeatIsStep D ids node_eq kind logs leader state)
+  heartbeat_steps leader state to keys r is =
+      subst (λ (x : Option (Heartbeat C)). IfSome x (HeartbeatIsStep D ids node_eq kind logs leader state)) (sym is)
+      (by (entry_of ids.eq leader to) refl)
+    where
+      by : (o : Option (ProgressEntryOf C)) → entry_of ids.eq leader to ≡ o
+          → IfSome (option_map (heartbeat_to (log_view_of state)) o) (HeartbeatIsStep D ids node_eq kind logs leader state)
+      by None f = tt
+      by (Some entry) f = heartbeat_step leader state to entry keys f
+
+  commit_step : (leader : Leadership K N C) (old new : RaftStateIn K N I L C) (upto : Option (LogIdOf C)) → Keeps logs old new
+      → Commits ids.eq logs leader old new upto → CommitIsStep D ids node_eq kind logs leader old new
+  commit_step leader old new upto keeps call c s w v at leads fixed true_matches =
       steps c s w v old new _ _ at keeps
       (OneCommit (record {
         leader = leader;
@@ -382,16 +422,17 @@ module _ {K N L C : Type 0} (I D : Type 0) (ids : OrdMembers K) (node_eq : N →
             subst (λ (a : RaftStateIn K N I L C). ((r ≡ s) × (id_at (full_log a.log_ids) m.index ≡ Some m))
             ⊎ IsAmong (Answered r (vote_of a).leader_id (Matches (Some m))) w.network) (sym at.before)
             (true_matches r entry m known had);
-        more = more;
-        call = both (λ (a b : RaftStateIn K N I L C). Commits ids.eq logs leader a b more) old new (w.servers s) (v.servers s)
+        upto = upto;
+        call = both (λ (a b : RaftStateIn K N I L C). Commits ids.eq logs leader a b upto) old new (w.servers s) (v.servers s)
             at.before at.after call;
         campaign = at.has_campaign;
         sends = at.sent;
       }))
 
-  pub commit_steps : (leader : Leadership K N C) (old new : RaftStateIn K N I L C) → Keeps logs old new → {F : Type 0} (r : Result Bool F)
-      → IfOk r (Commits ids.eq logs leader old new) → IfOk r (λ _. CommitIsStep D ids node_eq kind logs leader old new)
-  commit_steps leader old new keeps (Ok more) call = commit_step leader old new more keeps call
+  pub commit_steps : (leader : Leadership K N C) (old new : RaftStateIn K N I L C) → Keeps logs old new
+      → {F : Type 0} (r : Result (Option (LogIdOf C)) F) → IfOk r (Commits ids.eq logs leader old new)
+      → IfOk r (λ _. CommitIsStep D ids node_eq kind logs leader old new)
+  commit_steps leader old new keeps (Ok upto) call = commit_step leader old new upto keeps call
   commit_steps leader old new keeps (Err e) call = tt
 
   pub restart_step : (vote : VoteIn L) (meta : SnapshotMetaOf C K N) (stored : List (EntryOf C K N D)) (known : Option (LogIdOf C))

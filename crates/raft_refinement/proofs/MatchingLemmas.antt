@@ -5,6 +5,7 @@ use Rattle.std.specs.Prelude.{
   ℕ,
   ◌^◌,
   max,
+  nat_eq,
   nat_lt,
   Bool,
   true,
@@ -14,7 +15,6 @@ use Rattle.std.specs.Prelude.{
   Option,
   Some,
   None,
-  is_some,
   Result,
   Ok,
   Err,
@@ -28,11 +28,25 @@ use Rattle.raft_base.specs.LogId.{id_le, id_lt, next_index}
 use Rattle.raft_base.specs.declared.log_id.LogIdOf.{LogIdOf}
 use Rattle.raft_handlers.specs.Compared.{LeaderMembers, compared}
 use Rattle.raft_handlers.specs.Leadership.{Leadership, WritesEntry, entry_of, flushed_entry}
-use Rattle.raft_handlers.specs.Responses.{TakesResponse, after_outcome, after_response, answers, as_refused, end_after, with_hint}
+use Rattle.raft_handlers.specs.Responses.{
+  TakesResponse,
+  after_conflict,
+  after_match,
+  after_outcome,
+  after_response,
+  answers,
+  as_refused,
+  end_after,
+  matched,
+  unless_late,
+  with_hint,
+}
 use Rattle.raft_handlers.specs.declared.error.ResponseError.{ResponseError}
-use Rattle.raft_handlers.specs.declared.error.ResponseError.TheVariants.{Foreign, UnknownMember}
+use Rattle.raft_handlers.specs.declared.error.ResponseError.TheVariants.{Foreign, LateHeartbeat, UnknownMember}
 use Rattle.raft_handlers.specs.declared.message.Outcome.{Outcome}
 use Rattle.raft_handlers.specs.declared.message.Outcome.TheVariants.{Conflict, HigherVote, Matches}
+use Rattle.raft_handlers.specs.declared.message.RequestNumber.{RequestNumber}
+use Rattle.raft_handlers.specs.declared.message.RequestNumber.TheVariants.{Heartbeat, InFlight}
 use Rattle.raft_handlers.specs.declared.message.Response.{Response}
 use Rattle.raft_progress.specs.entry.EntryTable.{entry_after_conflict, with_matching, with_search_end}
 use Rattle.raft_progress.specs.inflight.InflightTable.{inflight_after_ack, inflight_after_conflict}
@@ -137,25 +151,6 @@ module _ {K N C : Type 0} (eq : K → K → Bool) (old new : Leadership K N C) (
       by : (o : Option (ProgressEntryOf C)) → entry_of eq old to ≡ o → new ≡ record old { followers = new.followers }
       by None f = subst (λ (l : Leadership K N C). l ≡ record old { followers = l.followers }) (sym (unknown f)) refl
       by (Some entry) f = (idle entry f).rest
-
-  -- and no match
-  pub give_up_matches : ((x y : K) → eq x y ≡ true → x ≡ y) → (x : K) → match_of (entry_of eq new x) ≡ match_of (entry_of eq old x)
-  give_up_matches nodes x = by (entry_of eq old to) refl
-    where
-      each : (entry : ProgressEntryOf C) → entry_of eq old to ≡ Some entry → (b : Bool) → eq to x ≡ b
-          → (b ≡ true → entry_of eq old x ≡ Some entry) → match_of (entry_of eq new x) ≡ match_of (entry_of eq old x)
-      each entry f false e own =
-          ap match_of ((idle entry f).member.entries x
-          ∙ ap (λ (b : Bool). cond b (Some (record entry { inflight = Idle })) (entry_of eq old x)) e)
-      each entry f true e own =
-          ap match_of ((idle entry f).member.entries x
-          ∙ ap (λ (b : Bool). cond b (Some (record entry { inflight = Idle })) (entry_of eq old x)) e)
-          ∙ sym (ap match_of (own refl))
-
-      by : (o : Option (ProgressEntryOf C)) → entry_of eq old to ≡ o → match_of (entry_of eq new x) ≡ match_of (entry_of eq old x)
-      by None f = ap (λ (l : Leadership K N C). match_of (entry_of eq l x)) (unknown f)
-      by (Some entry) f =
-          each entry f (eq to x) refl (λ e. ap (λ (y : K). entry_of eq old y) (sym (nodes to x e)) ∙ f)
 
 -- a leader that counts its own log up to a log id counts this as its own match, or no match has changed
 module _ {K N C : Type 0} (eq : K → K → Bool) (logs : OrdMembers C) (old new : Leadership K N C) (upto : Option (LogIdOf C))
@@ -305,25 +300,52 @@ ack_match {C} cmp entry next upto (Ok inflight) is =
         sym (ap (λ (x : ProgressEntryOf C). x.matching) same)
     by false false is = cc
 
+-- the response to a heartbeat that is taken is not late
+on_time : {C : Type 0} (entry next : ProgressEntryOf C) (number : ℕ) (r : Result (ProgressEntryOf C) InflightError)
+    → unless_late entry number r ≡ Ok next → as_refused r ≡ Ok next
+on_time {C} entry next number r is = by (nat_eq entry.curr_inflight_id number) is
+  where
+    by : (b : Bool) → (let x : Result (ProgressEntryOf C) ResponseError = if b then as_refused r else Err LateHeartbeat in
+        x ≡ Ok next) → as_refused r ≡ Ok next
+    by true is = is
+    by false is = cc
+
+-- after the response to a heartbeat that matches, the match is as it was, or what the response says
+heartbeat_match : {C : Type 0} (cmp : C → C → Ordering) (entry next : ProgressEntryOf C) (upto : Option (LogIdOf C))
+    → as_refused (after_match cmp entry upto) ≡ Ok next → (next.matching ≡ entry.matching) ⊎ (next.matching ≡ upto)
+heartbeat_match {C} cmp entry next upto is = by (id_lt cmp entry.matching upto) (nat_lt (next_index upto) (2 ^ 64)) is
+  where
+    by : (a b : Bool) → as_refused (let r : Result (ProgressEntryOf C) InflightError = if a
+        then (if b then Ok (matched entry upto) else Err IndexTooLarge) else Ok entry in r) ≡ Ok next
+        → (next.matching ≡ entry.matching) ⊎ (next.matching ≡ upto)
+    by true true is =
+        let same : matched entry upto ≡ next = cc in
+        inr (sym (ap (λ (x : ProgressEntryOf C). x.matching) same))
+    by true false is = cc
+    by false b is =
+        let same : entry ≡ next = cc in
+        inl (sym (ap (λ (x : ProgressEntryOf C). x.matching) same))
+
 -- after a response the match is as it was, or what the response acknowledges
-response_match : {L C : Type 0} (cmp : C → C → Ordering) (entry next : ProgressEntryOf C) (request : Option ℕ) (o : Outcome L C)
-    → after_outcome cmp entry request o ≡ Ok next
-    → (next.matching ≡ entry.matching) ⊎ ((is_some request ≡ true) × (o ≡ Matches next.matching))
-response_match {L} {C} cmp entry next (Some request) (Matches upto) is =
-    inr (
-      refl,
-      sym (ap (λ (x : Option (LogIdOf C)). let y : Outcome L C = Matches x in y)
-          (ack_match cmp entry next upto (inflight_after_ack cmp entry.inflight request upto) is)),
-    )
-response_match {L} {C} cmp entry next None (Matches upto) is =
-    let same : entry ≡ next = cc in
-    inl (sym (ap (λ (x : ProgressEntryOf C). x.matching) same))
-response_match {L} {C} cmp entry next None (Conflict index last) is =
-    inl (hint_match entry next None index last (entry_after_conflict entry None index) refl is)
-response_match {L} {C} cmp entry next (Some request) (Conflict index last) is =
-    inl (hint_match entry next (Some request) index last (entry_after_conflict entry (Some request) index) refl is)
-response_match {L} {C} cmp entry next None (HigherVote vote) is = cc
-response_match {L} {C} cmp entry next (Some request) (HigherVote vote) is = cc
+response_match : {L C : Type 0} (cmp : C → C → Ordering) (entry next : ProgressEntryOf C) (request : RequestNumber) (o : Outcome L C)
+    → after_outcome cmp entry request o ≡ Ok next → (next.matching ≡ entry.matching) ⊎ (o ≡ Matches next.matching)
+response_match {L} {C} cmp entry next (InFlight number) (Matches upto) is =
+    inr (sym (ap (λ (x : Option (LogIdOf C)). let y : Outcome L C = Matches x in y)
+    (ack_match cmp entry next upto (inflight_after_ack cmp entry.inflight number upto) is)))
+response_match {L} {C} cmp entry next (Heartbeat number) (Matches upto) is =
+    by (heartbeat_match cmp entry next upto (on_time entry next number (after_match cmp entry upto) is))
+  where
+    by : (next.matching ≡ entry.matching) ⊎ (next.matching ≡ upto)
+        → (next.matching ≡ entry.matching) ⊎ (let o : Outcome L C = Matches upto in o ≡ Matches next.matching)
+    by (inl same) = inl same
+    by (inr said) = inr (sym (ap (λ (x : Option (LogIdOf C)). let y : Outcome L C = Matches x in y) said))
+response_match {L} {C} cmp entry next (InFlight number) (Conflict index last) is =
+    inl (hint_match entry next (Some number) index last (entry_after_conflict entry (Some number) index) refl is)
+response_match {L} {C} cmp entry next (Heartbeat number) (Conflict index last) is =
+    inl (hint_match entry next None index last (entry_after_conflict entry None index) refl
+    (on_time entry next number (after_conflict entry None index last) is))
+response_match {L} {C} cmp entry next (InFlight number) (HigherVote vote) is = cc
+response_match {L} {C} cmp entry next (Heartbeat number) (HigherVote vote) is = cc
 
 module _ {K N L C : Type 0} (eq : K → K → Bool) (logs : OrdMembers C) (old new : Leadership K N C) (from : K)
     (response : Response L C) where
@@ -394,12 +416,11 @@ module _ {K N L C : Type 0} (eq : K → K → Bool) (logs : OrdMembers C) (old n
   response_matches nodes r takes x = by (taken_or_same r takes)
     where
       answered : (is : IsTaken) → match_of (entry_of eq new x) ≡ is.next.matching → from ≡ x
-          → (is.next.matching ≡ is.entry.matching)
-          ⊎ ((is_some response.request ≡ true) × (response.outcome ≡ Matches is.next.matching)) → AnswersMatch x
+          → (is.next.matching ≡ is.entry.matching) ⊎ (response.outcome ≡ Matches is.next.matching) → AnswersMatch x
       answered is now same (inl stays) =
           inl (now ∙ stays ∙ sym (ap match_of (ap (λ (y : K). entry_of eq old y) (sym same) ∙ is.known)))
       answered is now same (inr said) =
-          inr (same, said.1 ∙ ap (λ (o : Option (LogIdOf C)). let y : Outcome L C = Matches o in y) (sym now))
+          inr (same, said ∙ ap (λ (o : Option (LogIdOf C)). let y : Outcome L C = Matches o in y) (sym now))
 
       each : (is : IsTaken) → (b : Bool) → eq from x ≡ b → AnswersMatch x
       each is false e =
@@ -425,15 +446,15 @@ module _ {K N L C E : Type 0} (k : Leaders L C K) (p : Place L C K E) (ids : K �
   KnowsAfter = KnowsMatches k p leader p.server (λ r. match_of (entry_of ids new r))
 
   true_after : answers logs.eq response old ≡ true → (entry next : ProgressEntryOf C) → entry_of ids old from ≡ Some entry
-      → (next.matching ≡ entry.matching) ⊎ ((is_some response.request ≡ true) × (response.outcome ≡ Matches next.matching))
+      → (next.matching ≡ entry.matching) ⊎ (response.outcome ≡ Matches next.matching)
       → IsTrueMatch k p leader p.server from next.matching
   true_after mine entry next f (inl same) = record {
     in_log = λ m e. knows.in_log from m (ap match_of f ∙ sym same ∙ e);
     acked = λ m e. knows.acked from m (ap match_of f ∙ sym same ∙ e);
   }
   true_after mine entry next f (inr is) = record {
-    in_log = λ m e. in_log mine m (is.0, is.1 ∙ ap (λ (x : Option (LogIdOf C)). let y : Outcome L C = Matches x in y) e);
-    acked = λ m e. acked mine m (is.0, is.1 ∙ ap (λ (x : Option (LogIdOf C)). let y : Outcome L C = Matches x in y) e);
+    in_log = λ m e. in_log mine m (is ∙ ap (λ (x : Option (LogIdOf C)). let y : Outcome L C = Matches x in y) e);
+    acked = λ m e. acked mine m (is ∙ ap (λ (x : Option (LogIdOf C)). let y : Outcome L C = Matches x in y) e);
   }
 
   pub response_counted : (r : Result (Unit {0}) ResponseError) → TakesResponse ids logs from response old new r → KnowsAfter

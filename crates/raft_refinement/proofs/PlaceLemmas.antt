@@ -1,5 +1,24 @@
 -- Logs by their entries, which of two is up to date, and which of two votes is greater.
-use Rattle.std.specs.Prelude.{◌≡◌, ◌≤◌, ℕ, zero, suc, Bool, true, false, List, [], ◌∷◌, length, take, slice_get, Option, Some, None}
+use Rattle.std.specs.Prelude.{
+  ◌≡◌,
+  ◌≤◌,
+  ℕ,
+  zero,
+  suc,
+  Bool,
+  true,
+  false,
+  List,
+  [],
+  ◌∷◌,
+  length,
+  take,
+  slice_get,
+  Option,
+  Some,
+  None,
+  if◌then◌else◌,
+}
 use Rattle.std.specs.Ordering.{is_le, nat_cmp, ordering_then}
 use Rattle.std.specs.declared.cmp.Ordering.{Ordering}
 use Rattle.std.specs.declared.cmp.Ordering.TheVariants.{Less, Equal, Greater}
@@ -90,6 +109,12 @@ same_votes x y a b = λ i. record { leader_id = a i; committed = b i }
 
 pub some_same : {X : Type 0} (x y : X) → Some x ≡ Some y → x ≡ y
 some_same x y e = cc
+
+-- what is returned if something is due is what is granted
+pub is_due : {X : Type 0} (due : Bool) (granted : Option X) (x : X) → Some x ≡ (if due then granted else None)
+    → (due ≡ true) × (granted ≡ Some x)
+is_due true granted x e = (refl, sym e)
+is_due false granted x e = let no : ⊥ = cc in absurd no
 
 pub beq_is : (a b : Bool) → beq a b ≡ true → a ≡ b
 beq_is true true h = refl

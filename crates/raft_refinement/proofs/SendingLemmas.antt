@@ -32,7 +32,8 @@ use Rattle.raft_base.specs.LogView.{prev_id}
 use Rattle.raft_base.specs.declared.log_id.LogIdOf.{LogIdOf}
 use Rattle.raft_handlers.specs.Compared.{LeaderMembers, compared}
 use Rattle.raft_handlers.specs.Leadership.{Leadership, WritesMember, entry_of}
-use Rattle.raft_handlers.specs.Responses.{SendsNext, after_probe, after_send, is_probe_due, limit_of, with_probe}
+use Rattle.raft_handlers.specs.Responses.{SendsNext, after_probe, after_send, heartbeat_to, is_probe_due, limit_of, with_probe}
+use Rattle.raft_handlers.specs.declared.message.Heartbeat.{Heartbeat}
 use Rattle.raft_progress.specs.entry.Request.{after_request, sent}
 use Rattle.raft_progress.specs.entry.Send.{can_send, end_of, idle_send_table, send_table, start_of}
 use Rattle.raft_progress.specs.inflight.Inflight.{is_idle, logs_from}
@@ -76,7 +77,7 @@ module _ {K N I L C : Type 0} (eq : K → K → Bool) (logs : OrdMembers C) (s :
   no_prev sending none x e = let absent : None ≡ Some x = sym none ∙ e in cc
 
   -- the log id before an index is of the log
-  before_in : (n : ℕ) (x : LogIdOf C) → prev_id (id_at (full_log s.log_ids)) n ≡ Some x → id_at (full_log s.log_ids) x.index ≡ Some x
+  pub before_in : (n : ℕ) (x : LogIdOf C) → prev_id (id_at (full_log s.log_ids)) n ≡ Some x → id_at (full_log s.log_ids) x.index ≡ Some x
   before_in zero x e = cc
   before_in (suc i) x e =
       subst (λ (j : ℕ). id_at (full_log s.log_ids) j ≡ Some x) (sym (index_found (full_log s.log_ids) i x e)) e
@@ -316,3 +317,17 @@ module _ {K N I L C E : Type 0} (ids : OrdMembers K) (node_eq : N → N → Bool
   sends_by_rule old new to most (Some (Logs id range)) call = λ xs each.
       is_sent range.prev (sent_in_log ids.eq logs s old new to most (Logs id range) call) xs each
   sends_by_rule old new to most (Some (Snapshot id last)) call = tt
+
+  pub heartbeat_by_rule : (leader : Leadership K N C) (to : K) (r : Option (Heartbeat C))
+      → r ≡ option_map (heartbeat_to (log_view_of s)) (entry_of ids.eq leader to)
+      → IfSome r (λ heartbeat. IsSent by_kind p (vote_of s).leader_id heartbeat.prev [] s.committed)
+  heartbeat_by_rule leader to r made =
+      subst (λ (x : Option (Heartbeat C)). IfSome x (λ heartbeat. IsSent by_kind p (vote_of s).leader_id heartbeat.prev [] s.committed))
+      (sym made) (by (entry_of ids.eq leader to))
+    where
+      by : (o : Option (ProgressEntryOf C)) → IfSome (option_map (heartbeat_to (log_view_of s)) o)
+          (λ heartbeat. IsSent by_kind p (vote_of s).leader_id heartbeat.prev [] s.committed)
+      by None = tt
+      by (Some entry) =
+          is_sent (prev_id (id_at (full_log s.log_ids)) entry.searching_end) (before_in ids.eq logs s entry.searching_end) []
+          (λ x none. absurd none)

@@ -38,7 +38,15 @@ use Rattle.raft_handlers.specs.Campaign.{Campaign, has_vote_of, is_counted}
 use Rattle.raft_handlers.specs.Compared.{LeaderMembers, compared}
 use Rattle.raft_handlers.specs.Entries.{entry_ids}
 use Rattle.raft_handlers.specs.Follow.{committed_vote_of, heard, is_followed}
-use Rattle.raft_handlers.specs.Leadership.{Leadership, MajorityMatches, entry_of, granted_by, is_of_leader}
+use Rattle.raft_handlers.specs.Leadership.{
+  Commits,
+  Leadership,
+  MajorityMatches,
+  entry_of,
+  granted_by,
+  is_commit_due,
+  is_of_leader,
+}
 use Rattle.raft_handlers.specs.Responses.{SendsNext}
 use Rattle.raft_handlers.specs.Snapshot.{AnswersSnapshot}
 use Rattle.raft_handlers.specs.declared.message.InstallSnapshot.{InstallSnapshot}
@@ -59,7 +67,6 @@ use Rattle.raft_state.specs.log_id_list.LogEdits.{log_after_purge}
 use Rattle.raft_state.specs.log_id_list.LogReads.{id_at, last_id}
 use Rattle.raft_state.specs.raft_state.Sound.{IsSound}
 use Rattle.raft_state.specs.membership_state.MembershipMoves.{after_commit}
-use Rattle.raft_state.specs.raft_state.Commit.{state_after_commit}
 use Rattle.raft_state.specs.raft_state.Valid.{none_or_logged}
 use Rattle.raft_state.specs.raft_state.VoteAndLog.{log_view_of, vote_of}
 use Rattle.raft_state.specs.declared.entry.EntryOf.{EntryOf}
@@ -95,6 +102,7 @@ use Rattle.raft_refinement.specs.Running.{
   OneElection,
   OneElse,
   OneHearing,
+  OneHeartbeat,
   OneProposal,
   OnePurge,
   OneRestart,
@@ -107,6 +115,7 @@ use Rattle.raft_refinement.specs.Running.{
   Restarts,
   RunsAreSafe,
   SendsEntries,
+  SendsHeartbeat,
   SendsSnapshot,
   SnapshotSent,
   StartsCampaign,
@@ -119,7 +128,7 @@ use Rattle.raft_refinement.specs.Running.{
 use Rattle.raft_refinement.specs.Seen.{leaders_of, seen}
 use Rattle.raft_refinement.proofs.AppendingLemmas.{index_found}
 use Rattle.raft_refinement.proofs.LawLemmas.{AreExact, Laws, are_ranked, from_map, has_node, in_terms, not_first, one_term, ranks}
-use Rattle.raft_refinement.proofs.PlaceLemmas.{beq_is, greater_leader, same_logs, same_state, same_votes, some_same}
+use Rattle.raft_refinement.proofs.PlaceLemmas.{beq_is, greater_leader, is_due, same_logs, same_state, same_votes, some_same}
 use Rattle.raft_refinement.proofs.RunningLemmas.{runs_are_safe}
 use Rattle.raft_refinement.proofs.SeenLemmas.{
   committed_found,
@@ -132,7 +141,7 @@ use Rattle.raft_refinement.proofs.SeenLemmas.{
   purge_keeps,
   sound_is_whole,
 }
-use Rattle.raft_refinement.proofs.SendingLemmas.{sent_in_log}
+use Rattle.raft_refinement.proofs.SendingLemmas.{before_in, sent_in_log}
 use Rattle.raft_refinement.proofs.Stepping.{IsSeenCluster, SeenCluster}
 use Rattle.raft_refinement.proofs.Views.{
   IsSeenFirst,
@@ -754,6 +763,32 @@ module _ {K N I L C D : Type 0} {ids : OrdMembers K} (node_eq : N → N → Bool
         prev_in Idle call has x e = has x e
         prev_in (Snapshot id last) call none x e = absurd none
 
+    heartbeat_seen : SendsHeartbeat ids node_eq kind logs c s w v → IsSeenStep s w v
+    heartbeat_seen d = record {
+      does = SeesSend (record {
+        leads = record {
+          is_own = leads_own d.leader d.leads;
+          term = leads_term d.leader d.leads;
+          is_committed = leads_committed d.leader d.leads;
+        };
+        prev = d.request.prev;
+        ids = [];
+        has_prev = λ x e. before_in ids.eq logs (w.servers s) d.entry.searching_end x (sym d.prev ∙ e);
+        has_ids = λ x none. absurd none;
+        has_committed = committed_found node_eq laws exact.committed (w.servers s) (holds.sound s);
+        call = ap seen d.state;
+        sends = ap seen_network d.sends
+            ∙ ap (λ (x : L). SeenSent x d.request.prev (entry_ids d.request.entries.items) d.request.committed ∷ seen_network w.network)
+            d.is_own
+            ∙ ap (λ (x : List (EntryOf C K N D)). SeenSent (vote_of (w.servers s)).leader_id d.request.prev (entry_ids x)
+            d.request.committed ∷ seen_network w.network) d.no_entries
+            ∙ ap (λ (x : Option (LogIdOf C)). SeenSent (vote_of (w.servers s)).leader_id d.request.prev [] x ∷ seen_network w.network)
+            d.committed;
+      });
+      grows = one_sent (EntriesSent d.request) d.sends;
+      campaign = same_campaign d.campaign (one_sent (EntriesSent d.request) d.sends);
+    }
+
     send_snapshot_seen : SendsSnapshot ids node_eq kind logs c s w v → IsSeenStep s w v
     send_snapshot_seen d = record {
       does = SeesSendSnapshot (record {
@@ -780,7 +815,7 @@ module _ {K N I L C D : Type 0} {ids : OrdMembers K} (node_eq : N → N → Bool
 
     commit_seen : CommitsGranted ids node_eq kind logs c s w v → IsSeenStep s w v
     commit_seen d = record {
-      does = by d.more refl;
+      does = by d.upto d.call;
       grows = none_sent d.sends;
       campaign = same_campaign d.campaign (none_sent d.sends);
     }
@@ -788,98 +823,93 @@ module _ {K N I L C D : Type 0} {ids : OrdMembers K} (node_eq : N → N → Bool
         matching : K → Option (LogIdOf C)
         matching r = match_of (entry_of ids.eq d.leader r)
 
-        by : (b : Bool) → d.more ≡ b → SeenDoes (viewed ids node_eq kind logs c) s (world_seen w) (world_seen v)
-        by false e =
-            idle (ap seen (d.call.committed ∙ pick d.more e)) (ap seen_network d.sends)
+        by : (upto : Option (LogIdOf C)) → Commits ids.eq logs d.leader (w.servers s) (v.servers s) upto
+            → SeenDoes (viewed ids node_eq kind logs c) s (world_seen w) (world_seen v)
+        by None call = idle (ap seen call.committed) (ap seen_network d.sends)
+        by (Some granted) call = SeesCommit (record {
+          leads = record {
+            is_own = leads_own d.leader d.leads;
+            term = leads_term d.leader d.leads;
+            is_committed = leads_committed d.leader d.leads;
+          };
+          granted = granted;
+          logged = exact_found logs.eq exact.committed (id_at (full_log (w.servers s).log_ids) granted.index) granted
+              (subst (λ (o : Option (LogIdOf C)). none_or_logged logs.eq (log_view_of (w.servers s)) o ≡ true) f (call.logged refl));
+          own = exact.committed granted.leader_id d.leader.leader_id
+              (ap (λ (o : Option (LogIdOf C)). is_of_leader logs.eq d.leader.leader_id o) (sym f) ∙ all.0)
+              ∙ sym (leads_id d.leader d.leads);
+          matching = matching;
+          true_matches = λ r m at. is_true r m (entry_of ids.eq d.leader r) refl at;
+          majority = counted ∙ major.majority;
+          call = same_state (seen (v.servers s)) (record (seen (w.servers s)) { committed = Some granted })
+              (ap vote_of state_is) (ap (λ (x : RaftStateIn K N I L C). full_log x.log_ids) state_is)
+              (ap (λ (x : RaftStateIn K N I L C). x.purged_next) state_is) (call.is_granted refl ∙ f);
+          sends = ap seen_network d.sends;
+        })
           where
-            pick : (b : Bool) → b ≡ false → (if b then state_after_commit logs.cmp (granted_by d.leader) (w.servers s) else w.servers s)
-                ≡ w.servers s
-            pick false f = refl
-            pick true f = absurd (true≢false f)
-        by true e = due (granted_by d.leader) refl
-          where
+            due : (is_commit_due logs d.leader (w.servers s) ≡ true) × (granted_by d.leader ≡ Some granted)
+            due = is_due (is_commit_due logs d.leader (w.servers s)) (granted_by d.leader) granted call.answer
+
+            f : granted_by d.leader ≡ Some granted
+            f = due.1
+
             all : (is_of_leader logs.eq d.leader.leader_id (granted_by d.leader) ≡ true)
                 × (id_lt logs.cmp (w.servers s).committed (granted_by d.leader) ≡ true)
-            all = and_parts _ _ (sym d.call.answer ∙ e)
+            all = and_parts _ _ due.0
 
-            due : (o : Option (LogIdOf C)) → granted_by d.leader ≡ o
-                → SeenDoes (viewed ids node_eq kind logs c) s (world_seen w) (world_seen v)
-            due None f = absurd (false≢true (ap (λ (o : Option (LogIdOf C)). is_of_leader logs.eq d.leader.leader_id o) (sym f) ∙ all.0))
-            due (Some granted) f = SeesCommit (record {
-              leads = record {
-                is_own = leads_own d.leader d.leads;
-                term = leads_term d.leader d.leads;
-                is_committed = leads_committed d.leader d.leads;
-              };
-              granted = granted;
-              logged = exact_found logs.eq exact.committed (id_at (full_log (w.servers s).log_ids) granted.index) granted
-                  (subst (λ (o : Option (LogIdOf C)). none_or_logged logs.eq (log_view_of (w.servers s)) o ≡ true) f (d.call.logged e));
-              own = exact.committed granted.leader_id d.leader.leader_id
-                  (ap (λ (o : Option (LogIdOf C)). is_of_leader logs.eq d.leader.leader_id o) (sym f) ∙ all.0)
-                  ∙ sym (leads_id d.leader d.leads);
-              matching = matching;
-              true_matches = λ r m at. is_true r m (entry_of ids.eq d.leader r) refl at;
-              majority = counted ∙ major.majority;
-              call = same_state (seen (v.servers s)) (record (seen (w.servers s)) { committed = Some granted })
-                  (ap vote_of state_is) (ap (λ (x : RaftStateIn K N I L C). full_log x.log_ids) state_is)
-                  (ap (λ (x : RaftStateIn K N I L C). x.purged_next) state_is) (d.call.is_granted e ∙ f);
-              sends = ap seen_network d.sends;
-            })
+            itself : id_le logs.cmp (Some granted) (Some granted) ≡ true
+            itself = AtMost-refl (optional-log_id_cmp-total laws.total) (Some granted)
+
+            major : MajorityMatches ids.eq logs.cmp d.leader granted
+            major =
+                (call.greatest granted).0
+                (subst (λ (o : Option (LogIdOf C)). id_le logs.cmp (Some granted) o ≡ true) (sym f) itself)
+
+            passes : (o : Option (ProgressEntryOf C)) → id_le logs.cmp (Some granted) (match_of o)
+                ≡ option_map_or (λ (x : ProgressEntryOf C). id_le logs.cmp (Some granted) x.matching) o false
+            passes None = refl
+            passes (Some x) = refl
+
+            counted : is_joint_majority ids.eq c.configs (λ r. id_le logs.cmp (Some granted) (matching r))
+                ≡ is_joint_majority ids.eq d.leader.followers.membership.configs
+                (λ r. option_map_or (λ (x : ProgressEntryOf C). id_le logs.cmp (Some granted) x.matching)
+                (entry_of ids.eq d.leader r) false)
+            counted =
+                ap (λ (m : List (List K)). is_joint_majority ids.eq m (λ r. id_le logs.cmp (Some granted) (matching r))) (sym d.fixed)
+                ∙ ap (λ (f : K → Bool). is_joint_majority ids.eq d.leader.followers.membership.configs f)
+                (λ i r. passes (entry_of ids.eq d.leader r) i)
+
+            is_true : (r : K) (m : LogIdOf C) (o : Option (ProgressEntryOf C)) → entry_of ids.eq d.leader r ≡ o → match_of o ≡ Some m
+                → ((r ≡ s) × (id_at (full_log (w.servers s).log_ids) m.index ≡ Some m))
+                ⊎ IsAmong (SeenMatched r (vote_of (w.servers s)).leader_id (Some m)) (seen_network w.network)
+            is_true r m None g at = cc
+            is_true r m (Some x) g at = answered (d.true_matches r x m g at)
               where
-                itself : id_le logs.cmp (Some granted) (Some granted) ≡ true
-                itself = AtMost-refl (optional-log_id_cmp-total laws.total) (Some granted)
-
-                major : MajorityMatches ids.eq logs.cmp d.leader granted
-                major =
-                    (d.call.greatest granted).0
-                    (subst (λ (o : Option (LogIdOf C)). id_le logs.cmp (Some granted) o ≡ true) (sym f) itself)
-
-                passes : (o : Option (ProgressEntryOf C)) → id_le logs.cmp (Some granted) (match_of o)
-                    ≡ option_map_or (λ (x : ProgressEntryOf C). id_le logs.cmp (Some granted) x.matching) o false
-                passes None = refl
-                passes (Some x) = refl
-
-                counted : is_joint_majority ids.eq c.configs (λ r. id_le logs.cmp (Some granted) (matching r))
-                    ≡ is_joint_majority ids.eq d.leader.followers.membership.configs
-                    (λ r. option_map_or (λ (x : ProgressEntryOf C). id_le logs.cmp (Some granted) x.matching)
-                    (entry_of ids.eq d.leader r) false)
-                counted =
-                    ap (λ (m : List (List K)). is_joint_majority ids.eq m (λ r. id_le logs.cmp (Some granted) (matching r))) (sym d.fixed)
-                    ∙ ap (λ (f : K → Bool). is_joint_majority ids.eq d.leader.followers.membership.configs f)
-                    (λ i r. passes (entry_of ids.eq d.leader r) i)
-
-                is_true : (r : K) (m : LogIdOf C) (o : Option (ProgressEntryOf C)) → entry_of ids.eq d.leader r ≡ o → match_of o ≡ Some m
+                answered : ((r ≡ s) × (id_at (full_log (w.servers s).log_ids) m.index ≡ Some m))
+                    ⊎ IsAmong (Answered r (vote_of (w.servers s)).leader_id (Matches (Some m))) w.network
                     → ((r ≡ s) × (id_at (full_log (w.servers s).log_ids) m.index ≡ Some m))
                     ⊎ IsAmong (SeenMatched r (vote_of (w.servers s)).leader_id (Some m)) (seen_network w.network)
-                is_true r m None g at = cc
-                is_true r m (Some x) g at = answered (d.true_matches r x m g at)
-                  where
-                    answered : ((r ≡ s) × (id_at (full_log (w.servers s).log_ids) m.index ≡ Some m))
-                        ⊎ IsAmong (Answered r (vote_of (w.servers s)).leader_id (Matches (Some m))) w.network
-                        → ((r ≡ s) × (id_at (full_log (w.servers s).log_ids) m.index ≡ Some m))
-                        ⊎ IsAmong (SeenMatched r (vote_of (w.servers s)).leader_id (Some m)) (seen_network w.network)
-                    answered (inl own) = inl own
-                    answered (inr among) =
-                        inr (in_network (Answered r (vote_of (w.servers s)).leader_id (Matches (Some m)))
-                        (SeenMatched r (vote_of (w.servers s)).leader_id (Some m)) w.network among (inl refl))
+                answered (inl own) = inl own
+                answered (inr among) =
+                    inr (in_network (Answered r (vote_of (w.servers s)).leader_id (Matches (Some m)))
+                    (SeenMatched r (vote_of (w.servers s)).leader_id (Some m)) w.network among (inl refl))
 
-                state_is : v.servers s ≡ record (w.servers s) {
-                  committed = granted_by d.leader;
-                  membership_state = after_commit logs.cmp (granted_by d.leader) (w.servers s).membership_state;
-                }
-                state_is = d.call.committed ∙ pick d.more e (id_lt logs.cmp (w.servers s).committed (granted_by d.leader)) all.1
-                  where
-                    pick : (a : Bool) → a ≡ true → (b : Bool) → b ≡ true → (if a then (if b
-                        then record (w.servers s) {
-                          committed = granted_by d.leader;
-                          membership_state = after_commit logs.cmp (granted_by d.leader) (w.servers s).membership_state;
-                        } else w.servers s) else w.servers s) ≡ record (w.servers s) {
-                          committed = granted_by d.leader;
-                          membership_state = after_commit logs.cmp (granted_by d.leader) (w.servers s).membership_state;
-                        }
-                    pick true x true y = refl
-                    pick true x false y = absurd (false≢true y)
-                    pick false x b y = absurd (false≢true x)
+            state_is : v.servers s ≡ record (w.servers s) {
+              committed = granted_by d.leader;
+              membership_state = after_commit logs.cmp (granted_by d.leader) (w.servers s).membership_state;
+            }
+            state_is = call.committed ∙ pick (id_lt logs.cmp (w.servers s).committed (granted_by d.leader)) all.1
+              where
+                pick : (b : Bool) → b ≡ true → (if b
+                    then record (w.servers s) {
+                      committed = granted_by d.leader;
+                      membership_state = after_commit logs.cmp (granted_by d.leader) (w.servers s).membership_state;
+                    } else w.servers s) ≡ record (w.servers s) {
+                      committed = granted_by d.leader;
+                      membership_state = after_commit logs.cmp (granted_by d.leader) (w.servers s).membership_state;
+                    }
+                pick true y = refl
+                pick false y = absurd (false≢true y)
 
     -- ---- a restart, and a purge
 
@@ -951,6 +981,7 @@ module _ {K N I L C D : Type 0} {ids : OrdMembers K} (node_eq : N → N → Bool
     does_seen (OneElection d) = election_seen d
     does_seen (OneProposal d) = proposal_seen d
     does_seen (OneSend d) = send_seen d
+    does_seen (OneHeartbeat d) = heartbeat_seen d
     does_seen (OneSendSnapshot d) = send_snapshot_seen d
     does_seen (OneCommit d) = commit_seen d
     does_seen (OneRestart d) = restart_seen d

@@ -18,6 +18,7 @@ use Rattle.std.specs.Prelude.{
   Option,
   Some,
   None,
+  IfSome,
   Result,
   Ok,
   Err,
@@ -38,13 +39,23 @@ use Rattle.raft_handlers.specs.Campaign.{Campaign, Campaigns, CountsVoteOf, gran
 use Rattle.raft_handlers.specs.Compared.{LeaderMembers, compared}
 use Rattle.raft_handlers.specs.Entries.{entry_ids}
 use Rattle.raft_handlers.specs.Follow.{committed_vote_of, heard, is_followed, vote_heard}
-use Rattle.raft_handlers.specs.Leadership.{BecomesLeader, Commits, Leadership, MajorityMatches, entry_of, granted_by, is_of_leader}
+use Rattle.raft_handlers.specs.Leadership.{
+  BecomesLeader,
+  Commits,
+  Leadership,
+  MajorityMatches,
+  entry_of,
+  granted_by,
+  is_commit_due,
+  is_of_leader,
+}
 use Rattle.raft_handlers.specs.Snapshot.{AnswersSnapshot, RefusedFor, snapshot_refusal}
 use Rattle.raft_handlers.specs.declared.error.AppendError.{AppendError}
 use Rattle.raft_handlers.specs.declared.message.AppendEntries.{AppendEntries}
 use Rattle.raft_handlers.specs.declared.message.InstallSnapshot.{InstallSnapshot}
 use Rattle.raft_handlers.specs.declared.message.Outcome.{Outcome}
 use Rattle.raft_handlers.specs.declared.message.Outcome.TheVariants.{Conflict, HigherVote, Matches}
+use Rattle.raft_handlers.specs.declared.message.RequestNumber.TheVariants.{InFlight}
 use Rattle.raft_handlers.specs.declared.message.Response.{Response}
 use Rattle.raft_handlers.specs.declared.error.SnapshotError.{SnapshotError}
 use Rattle.raft_handlers.specs.declared.message.VoteResponse.{VoteResponse}
@@ -77,7 +88,7 @@ use Rattle.raft_refinement.specs.Voting.{CampaignsByRule}
 use Rattle.raft_refinement.proofs.AppendingLemmas.{appends_keep_rules, at_within, installs_keep_rules}
 use Rattle.raft_refinement.proofs.ElectingLemmas.{commits_by_rule, counts_keep_votes, elects_by_rule}
 use Rattle.raft_refinement.proofs.LawLemmas.{Laws}
-use Rattle.raft_refinement.proofs.PlaceLemmas.{beq_is, greater_leader, same_votes}
+use Rattle.raft_refinement.proofs.PlaceLemmas.{beq_is, greater_leader, is_due, same_votes}
 use Rattle.raft_refinement.proofs.SeenLemmas.{
   conflicts_seen,
   exact_found,
@@ -207,7 +218,7 @@ module _ {K N I L C E : Type 0} {ids : OrdMembers K} (node_eq : N → N → Bool
       → (is_followed kind.order request.leader_id old ≡ false → r ≡ Ok (
         record {
           leader_id = kind.committed request.leader_id;
-          request = Some request.request;
+          request = InFlight request.request;
           outcome = HigherVote (vote_of old);
         },
         nothing,
@@ -338,133 +349,133 @@ module _ {K N I L C E : Type 0} (ids : OrdMembers K) (node_eq : N → N → Bool
       (λ r. match_of (entry_of ids.eq leader r)))
       (configs : (set : K → Bool) → p.quorum (log_after (p.history.events p.server)) set
       ≡ is_joint_majority ids.eq leader.followers.membership.configs set) where
-    abbrev Done : Type 0
-    Done = (id : LogIdOf C) × (granted_by leader ≡ Some id)
+    abbrev Done : LogIdOf C → Type 0
+    Done id = (granted_by leader ≡ Some id)
         × HasCommitted (leaders_of (compared ids node_eq kind logs)) p (vote_of old).leader_id id (p.history.events p.server) (seen new)
 
-    commit_by_rule : (more : Bool) → Commits ids.eq logs leader old new more → more ≡ true → Done
-    commit_by_rule more call due = by (granted_by leader) refl
+    commit_by_rule : (granted : LogIdOf C) → Commits ids.eq logs leader old new (Some granted) → Done granted
+    commit_by_rule granted call = (
+      f,
+      record {
+        counted_at = length (p.history.leader_log t p.server);
+        committed = done;
+        server = subst (λ (s : State L C). IsServer (leaders_of (compared ids node_eq kind logs)) p s (p.history.events p.server))
+            (sym (ap seen state_is))
+            (record {
+              in_use = is.server.in_use;
+              reached = is.server.reached;
+              voted_for = is.server.voted_for;
+              log = record { last = is.server.log.last; each = is.server.log.each };
+              purged = is.server.purged;
+              committed = λ i at.
+                  let e : granted.index ≡ suc i = next_of (ap next_index (sym f) ∙ at) in
+                  subst (λ (n : ℕ). KnowsCommitted p.rank p.quorum p.history (p.history.events p.server) n) e known;
+            });
+      },
+    )
       where
         t : C
         t = kind.committed (vote_of old).leader_id
 
+        due : (is_commit_due logs leader old ≡ true) × (granted_by leader ≡ Some granted)
+        due = is_due (is_commit_due logs leader old) (granted_by leader) granted call.answer
+
+        f : granted_by leader ≡ Some granted
+        f = due.1
+
         all : (is_of_leader logs.eq leader.leader_id (granted_by leader) ≡ true)
             × (id_lt logs.cmp old.committed (granted_by leader) ≡ true)
-        all = and_parts _ _ (sym call.answer ∙ due)
+        all = and_parts _ _ due.0
 
         state_is : new ≡ record old {
           committed = granted_by leader;
           membership_state = after_commit logs.cmp (granted_by leader) old.membership_state;
         }
-        state_is = call.committed ∙ pick more due (id_lt logs.cmp old.committed (granted_by leader)) all.1
+        state_is = call.committed ∙ pick (id_lt logs.cmp old.committed (granted_by leader)) all.1
           where
-            pick : (a : Bool) → a ≡ true → (b : Bool) → b ≡ true → (if a then (if b
+            pick : (b : Bool) → b ≡ true → (if b
                 then record old {
                   committed = granted_by leader;
                   membership_state = after_commit logs.cmp (granted_by leader) old.membership_state;
-                } else old) else old) ≡ record old {
+                } else old) ≡ record old {
                   committed = granted_by leader;
                   membership_state = after_commit logs.cmp (granted_by leader) old.membership_state;
                 }
-            pick true x true y = refl
-            pick true x false y = absurd (false≢true y)
-            pick false x b y = absurd (false≢true x)
+            pick true y = refl
+            pick false y = absurd (false≢true y)
 
-        by : (o : Option (LogIdOf C)) → granted_by leader ≡ o → Done
-        by None f = absurd (false≢true (ap (λ (o : Option (LogIdOf C)). is_of_leader logs.eq leader.leader_id o) (sym f) ∙ all.0))
-        by (Some granted) f = (
-          granted,
-          f,
-          record {
-            counted_at = length (p.history.leader_log t p.server);
-            committed = done;
-            server = subst (λ (s : State L C). IsServer (leaders_of (compared ids node_eq kind logs)) p s (p.history.events p.server))
-                (sym (ap seen state_is))
-                (record {
-                  in_use = is.server.in_use;
-                  reached = is.server.reached;
-                  voted_for = is.server.voted_for;
-                  log = record { last = is.server.log.last; each = is.server.log.each };
-                  purged = is.server.purged;
-                  committed = λ i at.
-                      let e : granted.index ≡ suc i = next_of (ap next_index (sym f) ∙ at) in
-                      subst (λ (n : ℕ). KnowsCommitted p.rank p.quorum p.history (p.history.events p.server) n) e known;
-                });
-          },
-        )
-          where
-            next_of : {i : ℕ} → next_index (Some granted) ≡ suc (suc i) → granted.index ≡ suc i
-            next_of {i} at = omega (arith, at)
+        next_of : {i : ℕ} → next_index (Some granted) ≡ suc (suc i) → granted.index ≡ suc i
+        next_of {i} at = omega (arith, at)
 
-            logged : id_at (full_log old.log_ids) granted.index ≡ Some granted
-            logged =
-                exact_found logs.eq is.ranked.same (id_at (full_log old.log_ids) granted.index) granted
-                (subst (λ (o : Option (LogIdOf C)). none_or_logged logs.eq (log_view_of old) o ≡ true) f (call.logged due))
+        logged : id_at (full_log old.log_ids) granted.index ≡ Some granted
+        logged =
+            exact_found logs.eq is.ranked.same (id_at (full_log old.log_ids) granted.index) granted
+            (subst (λ (o : Option (LogIdOf C)). none_or_logged logs.eq (log_view_of old) o ≡ true) f (call.logged refl))
 
-            there : IsInLog p.first p.terms (p.history.leader_log t p.server) granted
-            there = rw log (is.server.log.each granted.index granted logged)
+        there : IsInLog p.first p.terms (p.history.leader_log t p.server) granted
+        there = rw log (is.server.log.each granted.index granted logged)
 
-            fits : granted.index ≤ length (p.history.leader_log t p.server)
-            fits = at_within p.first (p.history.leader_log t p.server) granted.index granted there.at
+        fits : granted.index ≤ length (p.history.leader_log t p.server)
+        fits = at_within p.first (p.history.leader_log t p.server) granted.index granted there.at
 
-            is_own : granted.leader_id ≡ t
-            is_own =
-                is.ranked.same granted.leader_id leader.leader_id
-                (ap (λ (o : Option (LogIdOf C)). is_of_leader logs.eq leader.leader_id o) (sym f) ∙ all.0) ∙ own
+        is_own : granted.leader_id ≡ t
+        is_own =
+            is.ranked.same granted.leader_id leader.leader_id
+            (ap (λ (o : Option (LogIdOf C)). is_of_leader logs.eq leader.leader_id o) (sym f) ∙ all.0) ∙ own
 
-            major : MajorityMatches ids.eq logs.cmp leader granted
-            major =
-                (call.greatest granted).0
-                (subst (λ (o : Option (LogIdOf C)). id_le logs.cmp (Some granted) o ≡ true) (sym f)
-                (AtMost-refl (optional-log_id_cmp-total total) (Some granted)))
+        major : MajorityMatches ids.eq logs.cmp leader granted
+        major =
+            (call.greatest granted).0
+            (subst (λ (o : Option (LogIdOf C)). id_le logs.cmp (Some granted) o ≡ true) (sym f)
+            (AtMost-refl (optional-log_id_cmp-total total) (Some granted)))
 
-            passes : (o : Option (ProgressEntryOf C)) → id_le logs.cmp (Some granted) (match_of o)
-                ≡ option_map_or (λ (x : ProgressEntryOf C). id_le logs.cmp (Some granted) x.matching) o false
-            passes None = refl
-            passes (Some x) = refl
+        passes : (o : Option (ProgressEntryOf C)) → id_le logs.cmp (Some granted) (match_of o)
+            ≡ option_map_or (λ (x : ProgressEntryOf C). id_le logs.cmp (Some granted) x.matching) o false
+        passes None = refl
+        passes (Some x) = refl
 
-            counted : p.quorum (take (length (p.history.leader_log t p.server)) (p.history.leader_log t p.server))
-                (λ r. id_le logs.cmp (Some granted) (match_of (entry_of ids.eq leader r))) ≡ true
-            counted =
-                ap (λ (l : List (Entry C E)). p.quorum l (λ r. id_le logs.cmp (Some granted) (match_of (entry_of ids.eq leader r))))
-                (take_prefix (prefix_itself (p.history.leader_log t p.server)) ∙ log)
-                ∙ configs (λ r. id_le logs.cmp (Some granted) (match_of (entry_of ids.eq leader r)))
-                ∙ ap (λ (g : K → Bool). is_joint_majority ids.eq leader.followers.membership.configs g)
-                (λ i r. passes (entry_of ids.eq leader r) i) ∙ major.majority
+        counted : p.quorum (take (length (p.history.leader_log t p.server)) (p.history.leader_log t p.server))
+            (λ r. id_le logs.cmp (Some granted) (match_of (entry_of ids.eq leader r))) ≡ true
+        counted =
+            ap (λ (l : List (Entry C E)). p.quorum l (λ r. id_le logs.cmp (Some granted) (match_of (entry_of ids.eq leader r))))
+            (take_prefix (prefix_itself (p.history.leader_log t p.server)) ∙ log)
+            ∙ configs (λ r. id_le logs.cmp (Some granted) (match_of (entry_of ids.eq leader r)))
+            ∙ ap (λ (g : K → Bool). is_joint_majority ids.eq leader.followers.membership.configs g)
+            (λ i r. passes (entry_of ids.eq leader r) i) ∙ major.majority
 
-            done : IsCommitted p.rank p.quorum p.history t p.server granted.index (length (p.history.leader_log t p.server))
-            done =
-                commits_by_rule (leaders_of (compared ids node_eq kind logs)) p is.ranked is.lawful is.safe (vote_of old).leader_id p.server
-                (λ r. match_of (entry_of ids.eq leader r)) knows granted (length (p.history.leader_log t p.server)) is_own there fits
-                (omega arith) counted
+        done : IsCommitted p.rank p.quorum p.history t p.server granted.index (length (p.history.leader_log t p.server))
+        done =
+            commits_by_rule (leaders_of (compared ids node_eq kind logs)) p is.ranked is.lawful is.safe (vote_of old).leader_id p.server
+            (λ r. match_of (entry_of ids.eq leader r)) knows granted (length (p.history.leader_log t p.server)) is_own there fits
+            (omega arith) counted
 
-            known : KnowsCommitted p.rank p.quorum p.history (p.history.events p.server) granted.index
+        known : KnowsCommitted p.rank p.quorum p.history (p.history.events p.server) granted.index
+        known = record {
+          may = record {
+            term = t;
+            leader = p.server;
+            elected = knows.elected;
+            written = fits;
+            in_log = subst (λ (l : List (Entry C E)). IsPrefix (take granted.index (p.history.leader_log t p.server)) l) log
+                (prefix_take granted.index (p.history.leader_log t p.server));
             known = record {
-              may = record {
-                term = t;
-                leader = p.server;
-                elected = knows.elected;
-                written = fits;
-                in_log = subst (λ (l : List (Entry C E)). IsPrefix (take granted.index (p.history.leader_log t p.server)) l) log
-                    (prefix_take granted.index (p.history.leader_log t p.server));
-                known = record {
-                  in_term = t;
-                  by_leader = p.server;
-                  committed_to = granted.index;
-                  counted_at = length (p.history.leader_log t p.server);
-                  committed = done;
-                  not_later = omega arith;
-                  is = prefix_itself (take granted.index (p.history.leader_log t p.server));
-                };
-              };
-              reached = voted_term p.rank (appended p.quorum) p.history is.lawful p.server t p.server (p.history.events p.server)
-                  (is.lawful.servers p.server) knows.elected.for_itself;
-            }
+              in_term = t;
+              by_leader = p.server;
+              committed_to = granted.index;
+              counted_at = length (p.history.leader_log t p.server);
+              committed = done;
+              not_later = omega arith;
+              is = prefix_itself (take granted.index (p.history.leader_log t p.server));
+            };
+          };
+          reached = voted_term p.rank (appended p.quorum) p.history is.lawful p.server t p.server (p.history.events p.server)
+              (is.lawful.servers p.server) knows.elected.for_itself;
+        }
 
-    pub committed_by_rule : {F : Type 0} (r : Result Bool F) → IfOk r (Commits ids.eq logs leader old new)
-        → IfOk r (λ more. more ≡ true → (id : LogIdOf C) × (granted_by leader ≡ Some id)
-        × HasCommitted (leaders_of (compared ids node_eq kind logs)) p (vote_of old).leader_id id (p.history.events p.server) (seen new))
-    committed_by_rule (Ok more) call = commit_by_rule more call
+    pub committed_by_rule : {F : Type 0} (r : Result (Option (LogIdOf C)) F) → IfOk r (Commits ids.eq logs leader old new)
+        → IfOk r (λ upto. IfSome upto Done)
+    committed_by_rule (Ok (Some id)) call = commit_by_rule id call
+    committed_by_rule (Ok None) call = tt
     committed_by_rule (Err e) call = tt
 
 -- a new leader counts no match

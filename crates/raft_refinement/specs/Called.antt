@@ -1,6 +1,6 @@
 -- A call of a handler is a step of a run. Each of these facts is about every world in which a server has the
 -- state before the call, and the world in which it has the state after the call and has sent its message.
-use Rattle.std.specs.Prelude.{◌≡◌, ◌⊎◌, ◌≤◌, Bool, false, List, ◌∷◌, Option, Some, None, IsTrue}
+use Rattle.std.specs.Prelude.{◌≡◌, ◌⊎◌, ◌≤◌, Bool, false, List, [], ◌∷◌, Option, Some, None, IsTrue}
 use Rattle.raft_base.specs.LogId.{next_index}
 use Rattle.raft_base.specs.declared.log_id.LogIdOf.{LogIdOf}
 use Rattle.raft_base.specs.declared.vote.VoteIn.{VoteIn}
@@ -8,6 +8,7 @@ use Rattle.raft_handlers.specs.Campaign.{Campaign, grants_vote}
 use Rattle.raft_handlers.specs.Compared.{LeaderMembers}
 use Rattle.raft_handlers.specs.Leadership.{Leadership, entry_of}
 use Rattle.raft_handlers.specs.declared.message.AppendEntries.{AppendEntries}
+use Rattle.raft_handlers.specs.declared.message.Heartbeat.{Heartbeat}
 use Rattle.raft_handlers.specs.declared.message.InstallSnapshot.{InstallSnapshot}
 use Rattle.raft_handlers.specs.declared.message.Outcome.{Outcome}
 use Rattle.raft_handlers.specs.declared.message.Outcome.TheVariants.{Matches}
@@ -125,6 +126,15 @@ module _ {K N I L C : Type 0} (D : Type 0) (ids : OrdMembers K) (node_eq : N →
       → ((e : EntryOf C K N D) → IsAmong e request.entries.items
       → id_at (full_log state.log_ids) e.log_id.index ≡ Some e.log_id)
       → request.committed ≡ state.committed → Step ids node_eq kind logs c w v
+
+  -- a send of a heartbeat, in a request without entries that asks what the heartbeat says
+  abbrev pub HeartbeatIsStep : Leadership K N C → RaftStateIn K N I L C → Heartbeat C → Type 0
+  HeartbeatIsStep leader state heartbeat =
+      (c : Cluster K L) (s : K) (w v : World K N I L C D) (request : AppendEntries L C K N D)
+      → ComesAfter ids.eq s state state (w.campaigns s) (EntriesSent request ∷ w.network) w v
+      → Leads ids node_eq kind logs c s w v leader → request.leader_id ≡ (vote_of state).leader_id
+      → request.prev ≡ heartbeat.prev → request.entries.items ≡ [] → request.committed ≡ state.committed
+      → Step ids node_eq kind logs c w v
 
   -- a commit by the configs of the cluster, of true matches
   abbrev pub CommitIsStep : Leadership K N C → RaftStateIn K N I L C → RaftStateIn K N I L C → Type 0

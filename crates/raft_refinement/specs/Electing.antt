@@ -1,5 +1,5 @@
 -- What a candidate knows of its votes, and a leader of the logs of its members.
-use Rattle.std.specs.Prelude.{◌≡◌, ℕ, Bool, true, List, Option, Some, None, [], ◌∷◌, ◌++◌, is_some, length, IsTrue}
+use Rattle.std.specs.Prelude.{◌≡◌, ℕ, Bool, true, List, Option, Some, None, [], ◌∷◌, ◌++◌, length}
 use Rattle.raft_base.specs.declared.log_id.LogIdOf.{LogIdOf}
 use Rattle.raft_handlers.specs.declared.message.Outcome.TheVariants.{Matches}
 use Rattle.raft_handlers.specs.declared.message.Response.{Response}
@@ -16,9 +16,10 @@ abbrev pub match_of : {C : Type 0} → Option (ProgressEntryOf C) → Option (Lo
 match_of None = None
 match_of (Some entry) = entry.matching
 
--- a response acknowledges a request, up to a log id. The response to a heartbeat acknowledges nothing
+-- a response acknowledges up to a log id. The response to a heartbeat that the member matches does so too:
+-- the leader counts each response that matches, so the caller has to know that each one is true
 abbrev pub Acknowledges : {L C : Type 0} → Response L C → LogIdOf C → Type 0
-Acknowledges response id = IsTrue (is_some response.request) × (response.outcome ≡ Matches (Some id))
+Acknowledges response id = response.outcome ≡ Matches (Some id)
 
 module _ {L C K D : Type 0} (k : Leaders L C K) (p : Place L C K D) where
   -- what a candidate knows: who it counts has voted for it, and it itself has

@@ -38,7 +38,7 @@ use Rattle.raft_handlers.specs.Compared.{LeaderMembers, compared}
 use Rattle.raft_handlers.specs.Follow.{heard, is_followed, vote_heard}
 use Rattle.raft_handlers.specs.Leadership.{BecomesLeader, Commits, Leadership, entry_of, is_leading}
 use Rattle.raft_handlers.specs.Proposals.{AppendsOwn}
-use Rattle.raft_handlers.specs.Responses.{SendsNext}
+use Rattle.raft_handlers.specs.Responses.{SendsNext, heartbeat_to}
 use Rattle.raft_handlers.specs.Restart.{Restores}
 use Rattle.raft_handlers.specs.Snapshot.{AnswersSnapshot, snapshot_refusal}
 use Rattle.raft_handlers.specs.Vote.{Grants}
@@ -251,7 +251,7 @@ module _ {K N I L C D : Type 0} (ids : OrdMembers K) (node_eq : N → N → Bool
       pub sends : v.network ≡ w.network
 
     -- the log id before the entries of a request is that of what the leader puts in flight, or, in a
-    -- heartbeat, one of the leader's log
+    -- heartbeat of the engine's own, one of the leader's log
     abbrev pub Carries : InflightOf C → Option (LogIdOf C) → Type 0
     Carries (Logs id range) prev = prev ≡ range.prev
     Carries Idle prev = (x : LogIdOf C) → prev ≡ Some x
@@ -273,6 +273,23 @@ module _ {K N I L C D : Type 0} (ids : OrdMembers K) (node_eq : N → N → Bool
       pub prev : Carries sending request.prev
       pub entries : (e : EntryOf C K N D) → IsAmong e request.entries.items
           → id_at (full_log (w.servers s).log_ids) e.log_id.index ≡ Some e.log_id
+      pub committed : request.committed ≡ (w.servers s).committed
+      pub state : (v.servers s) ≡ (w.servers s)
+      pub campaign : v.campaigns s ≡ w.campaigns s
+      pub sends : v.network ≡ EntriesSent request ∷ w.network
+
+    -- a leader sends a heartbeat to a member, at any time: `heartbeat`. The request has no entries, and what
+    -- the leader has committed goes with it
+    pub record SendsHeartbeat : Type 0 where
+      pub leader : Leadership K N C
+      pub leads : Leads leader
+      pub to : K
+      pub entry : ProgressEntryOf C
+      pub known : entry_of ids.eq leader to ≡ Some entry
+      pub request : AppendEntries L C K N D
+      pub is_own : request.leader_id ≡ (vote_of (w.servers s)).leader_id
+      pub prev : request.prev ≡ (heartbeat_to (log_view_of (w.servers s)) entry).prev
+      pub no_entries : request.entries.items ≡ []
       pub committed : request.committed ≡ (w.servers s).committed
       pub state : (v.servers s) ≡ (w.servers s)
       pub campaign : v.campaigns s ≡ w.campaigns s
@@ -303,8 +320,8 @@ module _ {K N I L C D : Type 0} (ids : OrdMembers K) (node_eq : N → N → Bool
           → entry_of ids.eq leader r ≡ Some entry → entry.matching ≡ Some m
           → ((r ≡ s) × (id_at (full_log (w.servers s).log_ids) m.index ≡ Some m))
           ⊎ IsAmong (Answered r (vote_of (w.servers s)).leader_id (Matches (Some m))) w.network
-      pub more : Bool
-      pub call : Commits ids.eq logs leader (w.servers s) (v.servers s) more
+      pub upto : Option (LogIdOf C)
+      pub call : Commits ids.eq logs leader (w.servers s) (v.servers s) upto
       pub campaign : v.campaigns s ≡ w.campaigns s
       pub sends : v.network ≡ w.network
 
@@ -353,6 +370,7 @@ module _ {K N I L C D : Type 0} (ids : OrdMembers K) (node_eq : N → N → Bool
       OneElection : IsElectedLeader → DoesOne
       OneProposal : Proposes → DoesOne
       OneSend : SendsEntries → DoesOne
+      OneHeartbeat : SendsHeartbeat → DoesOne
       OneSendSnapshot : SendsSnapshot → DoesOne
       OneCommit : CommitsGranted → DoesOne
       OneRestart : Restarts → DoesOne

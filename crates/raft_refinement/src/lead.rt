@@ -1,13 +1,13 @@
 //! A leader keeps rules 4 and 5 with what it proposes, sends by the rules, counts true matches, and
 //! commits by the rule.
-ghost use Rattle.std.specs.Prelude.{◌≡◌, Bool, IfOk, IfSome, IsTrue, Some, is_some};
+ghost use Rattle.std.specs.Prelude.{◌≡◌, Bool, IfOk, IfSome, IsTrue, Some, [], is_some};
 ghost use Rattle.std.specs.Set.{ClonesAreEqual};
 ghost use Rattle.raft_base.specs.declared.log_id.LogIdOf.{LogIdOf as LogIdRecord};
 ghost use Rattle.raft_handlers.specs.Compared.{compared};
 ghost use Rattle.raft_handlers.specs.Leadership.{entry_of, granted_by};
 ghost use Rattle.raft_handlers.specs.Responses.{answers};
 ghost use Rattle.raft_members.specs.quorum.Majority.{is_joint_majority};
-ghost use Rattle.raft_refinement.specs.Appending.{SendsByRule};
+ghost use Rattle.raft_refinement.specs.Appending.{IsSent, SendsByRule};
 ghost use Rattle.raft_refinement.specs.Electing.{Acknowledges, HasCommitted, KnowsMatches, ProposesOwn, match_of};
 ghost use Rattle.raft_refinement.specs.Seen.{leaders_of, seen};
 ghost use Rattle.raft_refinement.specs.Server.{IsInHistory, IsInLog, Place};
@@ -21,7 +21,7 @@ ghost use Rattle.raft_state.specs.raft_state.VoteAndLog.{vote_of};
 
 use raft_base::{Instant, LeaderIdentity, LogIdOf, Node, NodeId};
 use raft_handlers::{
-    CommitError, FlushError, Leader, ProposeError, Response, ResponseError, State,
+    CommitError, FlushError, Heartbeat, Leader, ProposeError, Response, ResponseError, State,
 };
 use raft_progress::InflightOf;
 use raft_state::EntryOf;
@@ -63,7 +63,8 @@ pub fn flushes<
 }
 
 /// Takes a member's response, as `Leader::handle_response` does. If what the response acknowledges
-/// is true, what the leader counts stays true. A refused response and a conflict raise no match.
+/// is true, what the leader counts stays true. The response to a heartbeat acknowledges what it
+/// matches too. A refused response and a conflict raise no match.
 ///
 /// `at` has the place of the leader and its leader id.
 pub fn takes<
@@ -139,6 +140,32 @@ pub fn sends<
     leader.next_request(state, to, max_entries)
 }
 
+/// Returns what a heartbeat to a member says, as `Leader::heartbeat` does. A request without
+/// entries that asks it is sent by the rules.
+pub fn sends_heartbeat<
+    NID: NodeId,
+    N: Node,
+    I: Instant,
+    L: LeaderIdentity<Id = NID, Committed = C> + Drop,
+    C: Ord + Copy + Default + Drop + 'static,
+    D,
+>(leader: &Leader<NID, N, C>, state: &State<NID, N, I, L>, to: &NID) -> Option<Heartbeat<C>>
+    ghost p: { Place L C NID D }
+    requires sound { IsSound C.eq C.cmp state.now }
+    requires server { let by = compared NID.Ord N.eq L.LeaderIdentity C.Ord in
+        IsInHistory (leaders_of by) p (seen state.now) }
+    requires own { L.voted (vote_of state.now).leader_id ≡ Some p.server }
+    requires elected { IsElected p.rank p.quorum p.history
+        (L.committed (vote_of state.now).leader_id) p.server }
+    requires log { p.history.leader_log (L.committed (vote_of state.now).leader_id) p.server
+        ≡ log_after (p.history.events p.server) }
+    ensures by_rule { let by = compared NID.Ord N.eq L.LeaderIdentity C.Ord in
+        IfSome result (λ heartbeat. IsSent (leaders_of by) p (vote_of state.now).leader_id
+        heartbeat.prev [] state.now.committed) }
+{
+    leader.heartbeat(state, to)
+}
+
 /// Takes what is in flight to a member as lost, as `Leader::give_up` does. What the leader counts
 /// stays true.
 ///
@@ -164,8 +191,8 @@ pub fn gives_up<
     leader.give_up(to);
 }
 
-/// Commits, as `Leader::commit` does: what is new is committed by the rule, if the leader counts
-/// true matches by the config in effect in its log.
+/// Commits, as `Leader::commit` does: what it returns is committed by the rule, if the leader
+/// counts true matches by the config in effect in its log.
 pub fn commits<
     NID: NodeId,
     N: Node,
@@ -173,7 +200,10 @@ pub fn commits<
     L: LeaderIdentity<Id = NID, Committed = C> + Drop,
     C: Ord + Copy + Default + Drop + 'static,
     D,
->(leader: &Leader<NID, N, C>, state: &mut State<NID, N, I, L>) -> Result<bool, CommitError>
+>(
+    leader: &Leader<NID, N, C>,
+    state: &mut State<NID, N, I, L>,
+) -> Result<Option<LogIdOf<C>>, CommitError>
     ghost p: { Place L C NID D }
     requires server { let by = compared NID.Ord N.eq L.LeaderIdentity C.Ord in
         IsInHistory (leaders_of by) p (seen state.old) }
@@ -186,9 +216,9 @@ pub fn commits<
     requires configs { (set : NID → Bool) → p.quorum (log_after (p.history.events p.server)) set
         ≡ is_joint_majority NID.eq leader.now.followers.membership.configs set }
     ensures by_rule { let by = compared NID.Ord N.eq L.LeaderIdentity C.Ord in
-        IfOk result (λ more. IsTrue more → (id : LogIdRecord C) × (granted_by leader.now ≡ Some id)
+        IfOk result (λ upto. IfSome upto (λ id. (granted_by leader.now ≡ Some id)
         × HasCommitted (leaders_of by) p (vote_of state.old).leader_id id
-        (p.history.events p.server) (seen state.new)) }
+        (p.history.events p.server) (seen state.new))) }
 {
     leader.commit(state)
 }

@@ -3,6 +3,7 @@
 //! Each function makes one call, and reads the keys of the log after it for the proof alone: they are
 //! in order. It promises that the call is a step, and what the call itself promises (`call`).
 ghost use Rattle.std.specs.Prelude.{◌≡◌, if◌then◌else◌, false, IfOk, IfSome, IsTrue};
+ghost use Rattle.std.specs.Option.{option_map};
 ghost use Rattle.std.specs.Ordering.{partial_ge};
 ghost use Rattle.std.specs.Set.{ClonesAreEqual};
 ghost use Rattle.raft_base.specs.UTime.{moment_of, utime_of};
@@ -11,23 +12,23 @@ ghost use Rattle.raft_handlers.specs.Append.{Answers};
 ghost use Rattle.raft_handlers.specs.Campaign.{Campaigns, CountsVoteOf, grants_vote};
 ghost use Rattle.raft_handlers.specs.Compared.{compared};
 ghost use Rattle.raft_handlers.specs.Follow.{heard};
-ghost use Rattle.raft_handlers.specs.Leadership.{BecomesLeader, Commits};
+ghost use Rattle.raft_handlers.specs.Leadership.{BecomesLeader, Commits, entry_of};
 ghost use Rattle.raft_handlers.specs.Proposals.{AppendsOwn};
-ghost use Rattle.raft_handlers.specs.Responses.{SendsNext};
+ghost use Rattle.raft_handlers.specs.Responses.{SendsNext, heartbeat_to};
 ghost use Rattle.raft_handlers.specs.Restart.{Restores};
 ghost use Rattle.raft_handlers.specs.Snapshot.{AnswersSnapshot};
 ghost use Rattle.raft_handlers.specs.Vote.{Grants};
-ghost use Rattle.raft_refinement.specs.Called.{AppendIsStep, CampaignIsStep, CommitIsStep, CountIsStep, ElectionIsStep, HearingIsStep, InstallIsStep, ProposalIsStep, RestartIsStep, SendIsStep, VoteIsStep};
+ghost use Rattle.raft_refinement.specs.Called.{AppendIsStep, CampaignIsStep, CommitIsStep, CountIsStep, ElectionIsStep, HearingIsStep, HeartbeatIsStep, InstallIsStep, ProposalIsStep, RestartIsStep, SendIsStep, VoteIsStep};
 ghost use Rattle.raft_state.specs.SnapshotMeta.{IsSnapshotCopy};
 ghost use Rattle.raft_state.specs.raft_state.VoteAndLog.{log_view_of, vote_of};
 ghost use Rattle.raft_state.specs.declared.entry.payload.EntryPayload.TheVariants.{Blank, Normal};
 
-use raft_base::{Instant, LeaderIdentity, Node, NodeId, VoteIn};
+use raft_base::{Instant, LeaderIdentity, LogIdOf, Node, NodeId, VoteIn};
 use raft_handlers::{
-    AppendEntries, AppendError, CampaignError, Candidate, Changes, CommitError, InstallSnapshot,
-    LeadError, Leader, ProposeError, Response, RestartError, SnapshotChanges, SnapshotError, State,
-    Stored, VoteRequest, VoteResponse, handle_append_entries, handle_install_snapshot,
-    handle_vote_request, restart_server,
+    AppendEntries, AppendError, CampaignError, Candidate, Changes, CommitError, Heartbeat,
+    InstallSnapshot, LeadError, Leader, ProposeError, Response, RestartError, SnapshotChanges,
+    SnapshotError, State, Stored, VoteRequest, VoteResponse, handle_append_entries,
+    handle_install_snapshot, handle_vote_request, restart_server,
 };
 use raft_progress::InflightOf;
 use raft_state::EntryOf;
@@ -232,6 +233,24 @@ pub fn sends<
     leader.next_request(state, to, max_entries)
 }
 
+/// Returns what a heartbeat to a member says, as `Leader::heartbeat` does.
+pub fn sends_heartbeat<
+    NID: NodeId,
+    N: Node,
+    I: Instant,
+    L: LeaderIdentity<Id = NID, Committed = C> + Drop,
+    C: Ord + Copy + Default + Drop + 'static,
+    D,
+>(leader: &Leader<NID, N, C>, state: &State<NID, N, I, L>, to: &NID) -> Option<Heartbeat<C>>
+    ensures step { IfSome result (HeartbeatIsStep D NID.Ord N.eq L.LeaderIdentity C.Ord
+        leader.now state.now) }
+    ensures call { result ≡ option_map (heartbeat_to (log_view_of state.now))
+        (entry_of NID.eq leader.now to.now) }
+{
+    let _keys = state.log_ids.key_log_ids();
+    leader.heartbeat(state, to)
+}
+
 /// Commits, as `Leader::commit` does.
 pub fn commits<
     NID: NodeId,
@@ -240,7 +259,10 @@ pub fn commits<
     L: LeaderIdentity<Id = NID, Committed = C> + Drop,
     C: Ord + Copy + Default + Drop + 'static,
     D,
->(leader: &Leader<NID, N, C>, state: &mut State<NID, N, I, L>) -> Result<bool, CommitError>
+>(
+    leader: &Leader<NID, N, C>,
+    state: &mut State<NID, N, I, L>,
+) -> Result<Option<LogIdOf<C>>, CommitError>
     ensures step { IfOk result (λ _. CommitIsStep D NID.Ord N.eq L.LeaderIdentity C.Ord
         leader.now state.old state.new) }
     ensures call { IfOk result (Commits NID.eq C.Ord leader.now state.old state.new) }
