@@ -20,6 +20,7 @@ use Rattle.std.specs.Prelude.{
   Some,
   None,
   IfSome,
+  is_some,
   Result,
   Ok,
   IfOk,
@@ -53,6 +54,7 @@ use Rattle.raft_handlers.specs.Start.{CanDecide, Starts, has_config}
 use Rattle.raft_handlers.specs.Vote.{Grants}
 use Rattle.raft_handlers.specs.declared.error.ResponseError.{ResponseError}
 use Rattle.raft_handlers.specs.declared.message.AppendEntries.{AppendEntries}
+use Rattle.raft_handlers.specs.declared.message.Heartbeat.{Heartbeat}
 use Rattle.raft_handlers.specs.declared.message.Outcome.{Outcome}
 use Rattle.raft_handlers.specs.declared.message.Outcome.TheVariants.{Matches}
 use Rattle.raft_handlers.specs.declared.message.Response.{Response}
@@ -70,6 +72,7 @@ use Rattle.raft_refinement.specs.Called.{
   CommitIsStep,
   CountIsStep,
   ElectionIsStep,
+  HeartbeatIsStep,
   ProposalIsStep,
   SendIsStep,
   VoteIsStep,
@@ -96,9 +99,6 @@ use Rattle.raft_refinement.proofs.MatchingLemmas.{
   AnswersMatch,
   FlushedMatch,
   flush_matches,
-  give_up_matches,
-  give_up_members,
-  give_up_node,
   response_matches,
   response_members,
   response_node,
@@ -116,6 +116,7 @@ use Rattle.raft_refinement_tests.specs.Story.{
   GoesOn,
   HasPair,
   HasThree,
+  HearsAgain,
   IsKnown,
   IsOfCampaign,
   IsStarted,
@@ -123,6 +124,7 @@ use Rattle.raft_refinement_tests.specs.Story.{
   LeadsAlone,
   LeadsBack,
   LeadsIn,
+  LeadsInVain,
   LeadsWith,
   Sends,
   TellsStory,
@@ -145,6 +147,11 @@ use Rattle.raft_state.proofs.lemmas.log_id_list.SameLogLemmas.{says_same}
 
 pub equal_numbers : (x y : ℕ) → nat_eq x y ≡ true → x ≡ y
 equal_numbers x y e = grind (arith, nat_tests)
+
+-- a fact holds if there is a result
+pub whenever : {A P : Type 0} (o : Option A) → P → IfSome o (λ _. P)
+whenever None p = tt
+whenever (Some x) p = p
 
 -- what follows from a fact about a result, if there is one
 pub if_some : {A : Type 0} {P Q : A → Type 0} (o : Option A) → IfSome o P → ((x : A) → P x → Q x) → IfSome o Q
@@ -186,9 +193,6 @@ pub logged_push : {K N C D : Type 0} (log : List (LogIdOf C)) (es new : List (En
 logged_push {K} {N} {C} {D} log es new i e is logged at =
     subst (λ (l : List (EntryOf C K N D)). AreLogged log l) (sym is) (logged_more log es e logged (found_own log i e.log_id at))
 
-pub none_logged : {K N C D : Type 0} (log : List (LogIdOf C)) (es : List (EntryOf C K N D)) → es ≡ [] → AreLogged log es
-none_logged {K} {N} {C} {D} log es is = subst (λ (l : List (EntryOf C K N D)). AreLogged log l) (sym is) tt
-
 -- a new server is one with the leader id of its vote
 pub by_vote : {K N I L C : Type 0} (kind : LeaderMembers L K C) (logs : OrdMembers C) (start : L) (s : RaftStateIn K N I L C)
     → IsNewServer kind logs start s → IsNewServer kind logs (vote_of s).leader_id s
@@ -227,11 +231,6 @@ IsCarried {C} log (Snapshot id last) prev = ⊥
 pub carries_logs : {C : Type 0} (log : List (LogIdOf C)) (sending : InflightOf C) (id : ℕ) (range : LogIdRangeOf C)
     → sending ≡ Logs id range → IsCarried log sending range.prev
 carries_logs {C} log sending id range is = subst (λ (x : InflightOf C). IsCarried log x range.prev) (sym is) refl
-
-pub carries_none : {C : Type 0} (log : List (LogIdOf C)) (sending : InflightOf C) (i : ℕ) (prev : Option (LogIdOf C))
-    → sending ≡ Idle → prev ≡ id_at log i → IsCarried log sending prev
-carries_none {C} log sending i prev is at =
-    subst (λ (x : InflightOf C). IsCarried log x prev) (sym is) (λ x e. found_own log i x (sym at ∙ e))
 
 pub some_of : {A : Type 0} (P : A → Type 0) (o : Option A) (x : A) → o ≡ Some x → IfSome o P → P x
 some_of {A} P o x is h = subst (λ (p : Option A). IfSome p P) is h
@@ -561,17 +560,6 @@ module _ {K N L C : Type 0} (I D : Type 0) (ids : OrdMembers K) (node_eq : N →
       by x m e (inl same) = leads.true_matches x m (sym same ∙ e)
       by x m e (inr is) = is m e
 
-  -- what is given up is no match
-  pub gives_up : (c : Cluster K L) (s : K) (w : World K N I L C D) (old new : Leadership K N C) (to : K)
-      → ((x y : K) → ids.eq x y ≡ true → x ≡ y) → (entry_of ids.eq old to ≡ None → new ≡ old)
-      → ((entry : ProgressEntryOf C) → entry_of ids.eq old to ≡ Some entry
-      → WritesEntry ids.eq old to (record entry { inflight = Idle }) new)
-      → LeadsIn D ids node_eq kind logs c s w old → LeadsIn D ids node_eq kind logs c s w new
-  gives_up c s w old new to nodes unknown idle leads =
-      learns c s w old new (ap (λ (l : Leadership K N C). l.id) (give_up_node ids.eq old new to unknown idle))
-      (ap (λ (l : Leadership K N C). l.leader_id) (give_up_node ids.eq old new to unknown idle))
-      (give_up_members ids.eq old new to unknown idle) (λ x. inl (give_up_matches ids.eq old new to unknown idle nodes x)) leads
-
   -- a proposal
   pub writes : {X : Type 0} (old new : RaftStateIn K N I L C) (leader : Leadership K N C) (payload : EntryPayload K N X)
       (entry : EntryOf C K N X) (last : LogIdOf C) → last_id (full_log old.log_ids) ≡ Some last
@@ -636,6 +624,26 @@ module _ {K N L C : Type 0} (I D : Type 0) (ids : OrdMembers K) (node_eq : N →
           (λ x. inl (send_matches ids.eq logs a before after to most has.exact.nodes (Some sending) call x))
           (leads_still c s w later a a before has.first goes.has.first refl (λ i m e. e) (λ m among. inr among) leads)
 
+  -- a heartbeat
+  pub beats : (a : RaftStateIn K N I L C) (leader : Leadership K N C) (heartbeat : Heartbeat C) (request : AppendEntries L C K N D)
+      → HeartbeatIsStep D ids node_eq kind logs leader a heartbeat → request.leader_id ≡ (vote_of a).leader_id
+      → request.prev ≡ heartbeat.prev → request.entries.items ≡ [] → request.committed ≡ a.committed
+      → Sends D ids node_eq kind logs a leader leader request
+  beats a leader heartbeat request step is_own prev none committed c s r b w has leads = (later, goes, leading, inl refl)
+    where
+      later : World K N I L C D
+      later = next s a (w.campaigns s) (EntriesSent request ∷ w.network) w
+
+      goes : GoesOn D ids node_eq kind logs c s r w later a b
+      goes =
+          first_goes c s r w a b has a (w.campaigns s) (EntriesSent request ∷ w.network) (λ m among. inr among)
+          (step c s w later request (comes s a a (w.campaigns s) (EntriesSent request ∷ w.network) w has.first)
+          (record { leads = leads.leads; node = leads.node; in_use = leads.in_use }) is_own prev none committed)
+
+      leading : LeadsIn D ids node_eq kind logs c s later leader
+      leading =
+          leads_still c s w later a a leader has.first goes.has.first refl (λ i m e. e) (λ m among. inr among) leads
+
   abbrev answer_as : K → L → Outcome L C → Message K N L C D
   answer_as r leader outcome = Answered r leader outcome
 
@@ -698,7 +706,7 @@ module _ {K N L C : Type 0} (I D : Type 0) (ids : OrdMembers K) (node_eq : N →
           (λ x. each x (response_matches ids.eq logs before after r response has.exact.nodes (Ok taken) call x)) leading_before
 
   -- a commit, after the leader has counted its own log
-  pub commits : (old new : RaftStateIn K N I L C) (before after : Leadership K N C) (upto : Option (LogIdOf C)) (more : Bool)
+  pub commits : (old new : RaftStateIn K N I L C) (before after : Leadership K N C) (upto committed : Option (LogIdOf C))
       → none_or_logged logs.eq (log_view_of old) upto ≡ true
       → ((entry : ProgressEntryOf C) → entry_of ids.eq before before.id ≡ Some entry → id_le logs.cmp entry.matching upto ≡ true
       → WritesEntry ids.eq before before.id (flushed_entry upto) after)
@@ -706,9 +714,9 @@ module _ {K N L C : Type 0} (I D : Type 0) (ids : OrdMembers K) (node_eq : N →
       → after ≡ before)
       → (entry_of ids.eq before before.id ≡ None → (x : K) → entry_of ids.eq after x ≡ entry_of ids.eq before x)
       → after.followers.membership ≡ before.followers.membership → after ≡ record before { followers = after.followers }
-      → CommitIsStep D ids node_eq kind logs after old new → Commits ids.eq logs after old new more
+      → CommitIsStep D ids node_eq kind logs after old new → Commits ids.eq logs after old new committed
       → LeadsAlone D ids node_eq kind logs old new before after
-  commits old new before after upto more logged counted stale not_counted members node step call c s r b w has leads =
+  commits old new before after upto committed logged counted stale not_counted members node step call c s r b w has leads =
       (later, goes, leading)
     where
       there : (m : LogIdOf C) → upto ≡ Some m → id_at (full_log (w.servers s).log_ids) m.index ≡ Some m
@@ -760,10 +768,10 @@ module _ {K N L C : Type 0} (I D : Type 0) (ids : OrdMembers K) (node_eq : N →
       leading : LeadsIn D ids node_eq kind logs c s later after
       leading =
           leads_still c s w later old new after has.first goes.has.first
-          (ap vote_of call.committed ∙ same_vote_now more (id_lt logs.cmp old.committed (granted_by after)))
+          (ap vote_of call.committed ∙ same_vote_now (is_some committed) (id_lt logs.cmp old.committed (granted_by after)))
           (λ i m e. subst (λ (l : List (LogIdOf C)). id_at l i ≡ Some m)
           (sym (ap (λ (x : RaftStateIn K N I L C). full_log x.log_ids) call.committed
-          ∙ same_log_now more (id_lt logs.cmp old.committed (granted_by after)))) e) (λ m among. among) flushed
+          ∙ same_log_now (is_some committed) (id_lt logs.cmp old.committed (granted_by after)))) e) (λ m among. among) flushed
 
   -- ---- what a leader does with a follower
   pub replicates : (r : K) (old mid new old_other new_other : RaftStateIn K N I L C) (l0 l1 l2 l3 : Leadership K N C)
@@ -783,43 +791,66 @@ module _ {K N L C : Type 0} (I D : Type 0) (ids : OrdMembers K) (node_eq : N →
         s4.2,
       )
 
-  pub hears_again : (r : K) (a o0 o1 o2 : RaftStateIn K N I L C) (l0 l1 l2 l3 l4 l5 l6 : Leadership K N C)
-      (lost heartbeat request : AppendEntries L C K N D) (answer outcome : Outcome L C) → Sends D ids node_eq kind logs a l0 l1 lost
-      → Sends D ids node_eq kind logs a l1 l2 heartbeat → heartbeat.leader_id ≡ (vote_of a).leader_id
-      → Exchanges D ids node_eq kind logs r o0 o1 heartbeat answer l2 l3 → (entry_of ids.eq l3 r ≡ None → l4 ≡ l3)
-      → ((entry : ProgressEntryOf C) → entry_of ids.eq l3 r ≡ Some entry
-      → WritesEntry ids.eq l3 r (record entry { inflight = Idle }) l4) → Sends D ids node_eq kind logs a l4 l5 request
-      → request.leader_id ≡ (vote_of a).leader_id → Exchanges D ids node_eq kind logs r o1 o2 request outcome l5 l6
-      → LeadsBack D ids node_eq kind logs r a o0 o2 answer l0 l6
-  hears_again r a o0 o1 o2 l0 l1 l2 l3 l4 l5 l6 lost heartbeat request answer outcome first beat own1 exchange1 unknown idle again own2
-      exchange2 c s w has leads =
+  pub asks : (r : K) (a old_other new_other : RaftStateIn K N I L C) (l0 l1 : Leadership K N C) (request : AppendEntries L C K N D)
+      (outcome : Outcome L C) → Sends D ids node_eq kind logs a l0 l0 request → request.leader_id ≡ (vote_of a).leader_id
+      → Exchanges D ids node_eq kind logs r old_other new_other request outcome l0 l1
+      → LeadsBack D ids node_eq kind logs r a old_other new_other outcome l0 l1
+  asks r a old_other new_other l0 l1 request outcome beat own exchange c s w has leads =
+      let s1 = beat c s r old_other w has leads in
+      let s2 = exchange c s a s1.0 s1.1.has s1.2 s1.3 own in (
+        s2.0,
+        goes_further c s r w s1.0 s2.0 a old_other a new_other s1.1 s2.1,
+        s2.2,
+        s2.3,
+      )
+
+  pub hears_again : (r : K) (a o0 o1 o2 o3 : RaftStateIn K N I L C) (l0 l1 l2 l3 l4 l5 : Leadership K N C)
+      (lost request : AppendEntries L C K N D) (cut found outcome : Outcome L C) → Sends D ids node_eq kind logs a l0 l1 lost
+      → LeadsBack D ids node_eq kind logs r a o0 o1 cut l1 l2 → LeadsBack D ids node_eq kind logs r a o1 o2 found l2 l3
+      → Sends D ids node_eq kind logs a l3 l4 request → request.leader_id ≡ (vote_of a).leader_id
+      → Exchanges D ids node_eq kind logs r o2 o3 request outcome l4 l5
+      → HearsAgain D ids node_eq kind logs r a o0 o3 cut found l0 l5
+  hears_again r a o0 o1 o2 o3 l0 l1 l2 l3 l4 l5 lost request cut found outcome first asks1 asks2 again own exchange c s w has leads =
       let s1 = first c s r o0 w has leads in
-      let s2 = beat c s r o0 s1.0 s1.1.has s1.2 in
-      let s3 = exchange1 c s a s2.0 s2.1.has s2.2 s2.3 own1 in
-      let s4 = again c s r o1 s3.0 s3.1.has (gives_up c s s3.0 l3 l4 r has.exact.nodes unknown idle s3.2) in
-      let s5 = exchange2 c s a s4.0 s4.1.has s4.2 s4.3 own2 in (
+      let s2 = asks1 c s s1.0 s1.1.has s1.2 in
+      let s3 = asks2 c s s2.0 s2.1.has s2.2 in
+      let s4 = again c s r o2 s3.0 s3.1.has s3.2 in
+      let s5 = exchange c s a s4.0 s4.1.has s4.2 s4.3 own in (
         s5.0,
-        goes_further c s r w s4.0 s5.0 a o1 a o2
-            (goes_further c s r w s3.0 s4.0 a o1 a o1
-            (goes_further c s r w s2.0 s3.0 a o0 a o1 (goes_further c s r w s1.0 s2.0 a o0 a o0 s1.1 s2.1) s3.1) s4.1) s5.1,
+        goes_further c s r w s4.0 s5.0 a o2 a o3
+            (goes_further c s r w s3.0 s4.0 a o2 a o2
+            (goes_further c s r w s2.0 s3.0 a o1 a o2 (goes_further c s r w s1.0 s2.0 a o0 a o1 s1.1 s2.1) s3.1) s4.1) s5.1,
         s5.2,
+        s5.1.sent _ (s4.1.sent _ (s3.1.sent _ s2.3)),
         s5.1.sent _ (s4.1.sent _ s3.3),
       )
 
+  -- a server that is elected and writes an entry
+  pub leads_in_vain : (s r : K) (old mid new old_voter new_voter : RaftStateIn K N I L C) (leader : Leadership K N C)
+      → Wins D ids node_eq kind logs s r old mid old_voter new_voter leader → LeadsAlone D ids node_eq kind logs mid new leader leader
+      → vote_of new ≡ vote_of mid → LeadsInVain D ids node_eq kind logs s r old new old_voter new_voter
+  leads_in_vain s r old mid new old_voter new_voter leader win write vote c w has in_use fixed =
+      let s1 = win c w has (subst (λ (x : VoteIn L). IsAmong x.leader_id c.leaders) vote in_use) fixed in
+      let s2 = write c s r new_voter s1.0 s1.1.has s1.2 in
+      (s2.0, goes_further c s r w s1.0 s2.0 mid new_voter new new_voter s1.1 s2.1)
+
   -- ---- the story
-  pub tells : (a b d : K) (x x1 x2 x3 y y1 y2 y3 z z1 z2 : RaftStateIn K N I L C) (l1 l2 l3 l4 : Leadership K N C)
-      (outcome : Outcome L C) → Wins D ids node_eq kind logs a b x x1 y y1 l1 → IsOfCampaign kind a (vote_of x1).leader_id
-      → LeadsAlone D ids node_eq kind logs x1 x2 l1 l1 → Wins D ids node_eq kind logs d b z z1 y1 y2 l2
-      → IsOfCampaign kind d (vote_of z1).leader_id → LeadsWith D ids node_eq kind logs b z1 z2 y2 y3 l2 l3
-      → LeadsBack D ids node_eq kind logs a z2 x2 x3 outcome l3 l4
-      → TellsStory D ids node_eq kind logs a b d x y z x3 y3 z2 outcome
-  tells a b d x x1 x2 x3 y y1 y2 y3 z z1 z2 l1 l2 l3 l4 outcome wins1 of1 writes1 wins2 of2 replicates2 back2 = (
+  pub tells : (a b d : K) (x x1 x2 y y1 y2 y3 y4 z z1 z2 z3 : RaftStateIn K N I L C) (l1 l2 l3 : Leadership K N C)
+      (cut found : Outcome L C) → LeadsInVain D ids node_eq kind logs a b x x1 y y1 → IsOfCampaign kind a (vote_of x1).leader_id
+      → LeadsInVain D ids node_eq kind logs d b z z1 y1 y2 → IsOfCampaign kind d (vote_of z1).leader_id
+      → z1.membership_state ≡ z.membership_state → Wins D ids node_eq kind logs d b z1 z2 y2 y3 l1
+      → IsOfCampaign kind d (vote_of z2).leader_id → LeadsWith D ids node_eq kind logs b z2 z3 y3 y4 l1 l2
+      → HearsAgain D ids node_eq kind logs a z3 x1 x2 cut found l2 l3
+      → TellsStory D ids node_eq kind logs a b d x y z x2 y4 z3 cut found
+  tells a b d x x1 x2 y y1 y2 y3 y4 z z1 z2 z3 l1 l2 l3 cut found vain1 of1 vain2 of2 same wins of3 replicates back = (
     (vote_of x1).leader_id,
     (vote_of z1).leader_id,
+    (vote_of z2).leader_id,
     of1,
     of2,
-    λ c w exact apart three in_use1 in_use2 fixed1 fixed2.
-        let s1 = wins1 c w
+    of3,
+    λ c w exact apart three in_use1 in_use2 in_use3 fixed1 fixed2.
+        let s1 = vain1 c w
         (record {
           exact = exact;
           apart = apart.one_two;
@@ -828,18 +859,18 @@ module _ {K N L C : Type 0} (I D : Type 0) (ids : OrdMembers K) (node_eq : N →
           first = three.one;
           second = three.two;
         }) in_use1 fixed1 in
-        let s2 = writes1 c a b y1 s1.0 s1.1.has s1.2 in
-        let s3 = wins2 c s2.0
+        let s2 = vain2 c s1.0
         (record {
           exact = exact;
           apart = turned b d apart.two_three;
-          earlier = s2.1.has.earlier;
-          run = s2.1.has.run;
-          first = s2.1.others d apart.one_three apart.two_three ∙ s1.1.others d apart.one_three apart.two_three ∙ three.three;
-          second = s2.1.has.second;
+          earlier = s1.1.has.earlier;
+          run = s1.1.has.run;
+          first = s1.1.others d apart.one_three apart.two_three ∙ three.three;
+          second = s1.1.has.second;
         }) in_use2 fixed2 in
-        let s4 = replicates2 c d s3.0 s3.1.has s3.2 in
-        let s5 = back2 c d s4.0
+        let s3 = wins c s2.0 s2.1.has in_use3 (ap (λ (m : Memberships C K N). (in_effect m).configs) same ∙ fixed2) in
+        let s4 = replicates c d s3.0 s3.1.has s3.2 in
+        let s5 = back c d s4.0
         (record {
           exact = exact;
           apart = turned a d apart.one_three;
@@ -847,7 +878,8 @@ module _ {K N L C : Type 0} (I D : Type 0) (ids : OrdMembers K) (node_eq : N →
           run = s4.1.has.run;
           first = s4.1.has.first;
           second = s4.1.others a (turned a d apart.one_three) (turned a b apart.one_two)
-              ∙ s3.1.others a (turned a d apart.one_three) (turned a b apart.one_two) ∙ s2.1.has.first;
+              ∙ s3.1.others a (turned a d apart.one_three) (turned a b apart.one_two)
+              ∙ s2.1.others a (turned a d apart.one_three) (turned a b apart.one_two) ∙ s1.1.has.first;
         }) s4.2 in (
           s5.0,
           record {
@@ -857,8 +889,9 @@ module _ {K N L C : Type 0} (I D : Type 0) (ids : OrdMembers K) (node_eq : N →
             two = s5.1.others b (turned b d apart.two_three) apart.one_two ∙ s4.1.has.second;
             three = s5.1.has.first;
           },
-          (vote_of z2).leader_id,
+          (vote_of z3).leader_id,
           s5.3,
+          s5.4,
         ),
   )
 
@@ -870,16 +903,18 @@ module _ {K N L C : Type 0} (I D : Type 0) (ids : OrdMembers K) (node_eq : N →
       → ((l m : L) → kind.is_default l → kind.is_default m → l ≡ m)
       → ((l m : L) → kind.committed l ≡ kind.committed m → kind.term_of l ≡ kind.term_of m)
       → IsStarted kind logs configs x → IsStarted kind logs configs y → IsStarted kind logs configs z
-      → TellsStory D ids node_eq kind logs a b d x y z p q o story.cut → IsKnown p story.one → IsKnown q story.two
+      → TellsStory D ids node_eq kind logs a b d x y z p q o story.cut story.found → IsKnown p story.one → IsKnown q story.two
       → IsKnown o story.three → EndsRun I D ids node_eq kind logs a b d story
   ends_run a b d configs x y z p q o story exact apart made one_default one_term is_x is_y is_z told one two three =
-      ends (told.4 in_cluster first_world exact apart has_three (inl told.2.1) (inr (inl told.3.1)) is_x.fixed is_z.fixed)
+      ends
+      (told.6 in_cluster first_world exact apart has_three (inl told.3.1) (inr (inl told.4.1)) (inr (inr (inl told.5.1))) is_x.fixed
+      is_z.fixed)
     where
       start : L
       start = (vote_of x).leader_id
 
       in_cluster : Cluster K L
-      in_cluster = cluster_of kind configs (vote_of x).leader_id ((told.2.0, a) ∷ (told.3.0, d) ∷ [])
+      in_cluster = cluster_of kind configs (vote_of x).leader_id ((told.3.0, a) ∷ (told.4.0, d) ∷ (told.5.0, d) ∷ [])
 
       first_world : World K N I L C D
       first_world = record {
@@ -917,11 +952,12 @@ module _ {K N L C : Type 0} (I D : Type 0) (ids : OrdMembers K) (node_eq : N →
       known_at {s} {t} {known} e is = subst (λ (u : RaftStateIn K N I L C). IsKnown u known) (sym e) is
 
       ends : (v : World K N I L C D) × HasThree D ids node_eq kind logs in_cluster a b d p q o v × (leader : L)
-          × IsAmong (Answered a leader story.cut) v.network → EndsRun I D ids node_eq kind logs a b d story
+          × IsAmong (Answered a leader story.cut) v.network × IsAmong (Answered a leader story.found) v.network
+          → EndsRun I D ids node_eq kind logs a b d story
       ends end = record {
         cluster = in_cluster;
-        is_cluster = nodes_cluster kind made one_term configs (vote_of x).leader_id ((told.2.0, a) ∷ (told.3.0, d) ∷ []) is_x.some
-            is_x.first_term;
+        is_cluster = nodes_cluster kind made one_term configs (vote_of x).leader_id
+            ((told.3.0, a) ∷ (told.4.0, d) ∷ (told.5.0, d) ∷ []) is_x.some is_x.first_term;
         world = end.0;
         earlier = end.1.earlier;
         run = end.1.run;
@@ -930,4 +966,5 @@ module _ {K N L C : Type 0} (I D : Type 0) (ids : OrdMembers K) (node_eq : N →
         three = known_at end.1.three three;
         leader = end.2;
         cut = end.3;
+        found = end.4;
       }

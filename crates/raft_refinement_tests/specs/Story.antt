@@ -104,6 +104,13 @@ module _ {K N I L C : Type 0} (D : Type 0) (ids : OrdMembers K) (node_eq : N →
       → IsAmong (vote_of new).leader_id c.leaders → (in_effect old.membership_state).configs ≡ c.configs
       → LeadsOn c s r w new new_voter leader
 
+  -- a server campaigns, the second one votes for it, and it leads, but nobody hears of what it does
+  abbrev pub LeadsInVain : (s r : K) → (old new old_voter new_voter : RaftStateIn K N I L C) → Type 0
+  LeadsInVain s r old new old_voter new_voter =
+      (c : Cluster K L) (w : World K N I L C D) → HasPair c s r old old_voter w
+      → IsAmong (vote_of new).leader_id c.leaders → (in_effect old.membership_state).configs ≡ c.configs
+      → (v : World K N I L C D) × GoesOn c s r w v new new_voter
+
   -- a leader does something alone
   abbrev pub LeadsAlone : (old new : RaftStateIn K N I L C) → (before after : Leadership K N C) → Type 0
   LeadsAlone old new before after =
@@ -145,6 +152,16 @@ module _ {K N I L C : Type 0} (D : Type 0) (ids : OrdMembers K) (node_eq : N →
       → (v : World K N I L C D) × GoesOn c s r w v a new_other × LeadsIn c s v after
       × IsAmong (Answered r (vote_of a).leader_id outcome) v.network
 
+  -- and the follower has given both of these answers on the way
+  abbrev pub HearsAgain : (r : K) → (a old_other new_other : RaftStateIn K N I L C)
+      → (cut found : Outcome L C) → (before after : Leadership K N C) → Type 0
+  HearsAgain r a old_other new_other cut found before after =
+      (c : Cluster K L) (s : K) (w : World K N I L C D) → HasPair c s r a old_other w
+      → LeadsIn c s w before
+      → (v : World K N I L C D) × GoesOn c s r w v a new_other × LeadsIn c s v after
+      × IsAmong (Answered r (vote_of a).leader_id cut) v.network
+      × IsAmong (Answered r (vote_of a).leader_id found) v.network
+
   -- a world of a run, in which three servers have these states
   pub record HasThree (c : Cluster K L) (a b d : K) (x y z : RaftStateIn K N I L C) (w : World K N I L C D)
       : Type 0 where
@@ -154,25 +171,27 @@ module _ {K N I L C : Type 0} (D : Type 0) (ids : OrdMembers K) (node_eq : N →
     pub two : w.servers b ≡ y
     pub three : w.servers d ≡ z
 
-  -- the story of three servers, from these states to those, in a cluster in which two of them campaign:
-  -- the first one has answered the leader so
-  abbrev pub Tells : (a b d : K) → (x y z p q o : RaftStateIn K N I L C) → (one two : L) → Outcome L C
-      → Type 0
-  Tells a b d x y z p q o one two outcome =
+  -- the story of three servers, from these states to those, in a cluster with three campaigns: the first
+  -- one has answered the leader so
+  abbrev pub Tells : (a b d : K) → (x y z p q o : RaftStateIn K N I L C) → (one two three : L)
+      → (cut found : Outcome L C) → Type 0
+  Tells a b d x y z p q o one two three cut found =
       (c : Cluster K L) (w : World K N I L C D) → AreExact ids logs → AreApart ids a b d
       → HasThree c a b d x y z w → IsAmong one c.leaders → IsAmong two c.leaders
-      → (in_effect x.membership_state).configs ≡ c.configs
+      → IsAmong three c.leaders → (in_effect x.membership_state).configs ≡ c.configs
       → (in_effect z.membership_state).configs ≡ c.configs
       → (v : World K N I L C D) × HasThree c a b d p q o v × (leader : L)
-      × IsAmong (Answered a leader outcome) v.network
+      × IsAmong (Answered a leader cut) v.network × IsAmong (Answered a leader found) v.network
 
-  abbrev pub TellsStory : (a b d : K) → (x y z p q o : RaftStateIn K N I L C) → Outcome L C → Type 0
-  TellsStory a b d x y z p q o outcome =
-      (one : L) × (two : L) × IsOfCampaign kind a one × IsOfCampaign kind d two
-      × Tells a b d x y z p q o one two outcome
+  -- the first server has campaigned once, and the third one twice
+  abbrev pub TellsStory : (a b d : K) → (x y z p q o : RaftStateIn K N I L C) → (cut found : Outcome L C)
+      → Type 0
+  TellsStory a b d x y z p q o cut found =
+      (one : L) × (two : L) × (three : L) × IsOfCampaign kind a one × IsOfCampaign kind d two
+      × IsOfCampaign kind d three × Tells a b d x y z p q o one two three cut found
 
 -- a run of a cluster ends in a world in which three servers are as the story says, and the first one has
--- answered a leader as it says
+-- given a leader both answers of the story
 pub record EndsRun {K N L C : Type 0} (I D : Type 0) (ids : OrdMembers K) (node_eq : N → N → Bool)
     (kind : LeaderMembers L K C) (logs : OrdMembers C) (a b d : K) (story : Story L C) : Type 0 where
   pub cluster : Cluster K L
@@ -185,3 +204,4 @@ pub record EndsRun {K N L C : Type 0} (I D : Type 0) (ids : OrdMembers K) (node_
   pub three : IsKnown (world.servers d) story.three
   pub leader : L
   pub cut : IsAmong (Answered a leader story.cut) world.network
+  pub found : IsAmong (Answered a leader story.found) world.network

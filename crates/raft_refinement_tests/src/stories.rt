@@ -16,11 +16,11 @@ fn members(alloc: Global) -> Result<Membership<u64, EmptyNode>, AllocError> {
 }
 
 /// What a server should know at the end: it has the vote of the leader that was elected last, whose
-/// entry its log has at index 1.
+/// entry its log has at index 2.
 fn follows<L, C: Copy>(leader_id: L, committed_id: C, has_committed: bool) -> Known<L, C> {
     let entry = LogIdOf {
         leader_id: committed_id,
-        index: 1,
+        index: 2,
     };
     Known {
         vote: VoteIn {
@@ -34,8 +34,8 @@ fn follows<L, C: Copy>(leader_id: L, committed_id: C, has_committed: bool) -> Kn
 
 /// What the story should come to, if the last leader has these ids. The second server does not know
 /// yet that the entry is committed. The log of the first one had another entry at index 1, and was
-/// cut there.
-fn expected<L: Copy, C: Copy>(leader_id: L, committed_id: C) -> Story<L, C> {
+/// cut there. Then it matched the leader's up to index 0.
+fn expected<L: Copy, C: Copy + Default>(leader_id: L, committed_id: C) -> Story<L, C> {
     Story {
         one: follows(leader_id, committed_id, true),
         two: follows(leader_id, committed_id, false),
@@ -44,6 +44,10 @@ fn expected<L: Copy, C: Copy>(leader_id: L, committed_id: C) -> Story<L, C> {
             index: 1,
             last: Some(0),
         },
+        found: Outcome::Matches(Some(LogIdOf {
+            leader_id: C::default(),
+            index: 0,
+        })),
     }
 }
 
@@ -65,7 +69,7 @@ fn comes_true<
 /// Leader ids of a term and a node, as they are by default.
 #[test]
 fn default_ids_tell_the_story(rt: HostRuntime) -> Result<(), Fail> {
-    let leader = LeaderId::new(2, 3);
+    let leader = LeaderId::new(3, 3);
     assert!(rt; comes_true(rt.alloc(), leader, leader));
     Ok(())
 }
@@ -73,7 +77,7 @@ fn default_ids_tell_the_story(rt: HostRuntime) -> Result<(), Fail> {
 /// Leader ids of standard Raft.
 #[test]
 fn standard_ids_tell_the_story(rt: HostRuntime) -> Result<(), Fail> {
-    let leader = leader_id_std::LeaderId::new(2, 3);
+    let leader = leader_id_std::LeaderId::new(3, 3);
     assert!(rt; comes_true(rt.alloc(), leader, leader.to_committed()));
     Ok(())
 }

@@ -1,18 +1,20 @@
 //! A story of three servers that is a run, over any leader ids.
 //!
-//! The first server is elected, and writes an entry that reaches nobody. The third one is elected in
-//! a later term, replicates an entry of its own and commits it. Then the first one is heard again:
-//! its log conflicts and is cut, it takes the new entry, and knows that it is committed.
+//! The first server is elected, and writes an entry that reaches nobody. So does the third one in a
+//! later term. Then the third one is elected again, replicates its log with another entry to the
+//! second one, and commits it. Then it hears of the first one again. The first one answers a
+//! heartbeat that the logs conflict, and its log is cut. It answers the next heartbeat that the
+//! logs match. It takes the new entries, and knows that they are committed.
 //!
 //! The contract of each part says what the part makes of a run, and that of `three_servers` that a
 //! run ends with what it returns. So `laws::runs_are_safe` speaks of these calls.
 ghost use Rattle.std.specs.Prelude.{◌≡◌, ℕ, false, IfSome, IsTrue};
-ghost use Rattle.raft_refinement_tests.specs.Story.{AreLogged, EndsRun, Exchanges, IsKnown, IsOfCampaign, IsStarted, LeadsAlone, LeadsBack, LeadsWith, Sends, TellsStory, Wins};
+ghost use Rattle.raft_refinement_tests.specs.Story.{AreLogged, EndsRun, Exchanges, HearsAgain, IsKnown, IsOfCampaign, IsStarted, LeadsAlone, LeadsBack, LeadsInVain, LeadsWith, Sends, TellsStory, Wins};
 ghost use Rattle.raft_state.specs.log_id_list.FullLog.{full_log};
 ghost use Rattle.raft_state.specs.raft_state.VoteAndLog.{vote_of};
 
 use raft_base::{EmptyNode, LeaderIdentity, LogIdOf, LogIdOptionExt, LogStateReader, VoteIn};
-use raft_handlers::{AppendEntries, Leader, Outcome, State};
+use raft_handlers::{AppendEntries, Leader, Outcome, RequestNumber, State};
 use raft_members::Membership;
 use raft_progress::InflightOf;
 use raft_refinement::{first, step};
@@ -30,14 +32,17 @@ pub struct Known<L, C> {
     pub committed: Option<LogIdOf<C>>,
 }
 
-/// What the three servers have come to, and what the first one has answered to a leader that it had
-/// not heard of.
+/// What the three servers have come to, and what the first one has answered to the heartbeats of a
+/// leader that it had not heard of.
 #[derive(PartialEq, Drop)]
 pub struct Story<L, C> {
     pub one: Known<L, C>,
     pub two: Known<L, C>,
     pub three: Known<L, C>,
+    /// The answer to the first heartbeat, at which its log was cut.
     pub cut: Outcome<L, C>,
+    /// The answer to the second heartbeat, which the leader has counted.
+    pub found: Outcome<L, C>,
 }
 
 /// A server campaigns, past a term that it has heard of. Another one votes for it, and it leads.
@@ -56,6 +61,8 @@ pub fn wins<
         state.old state.new other.old other.new) }
     ensures of_campaign { IfSome result (λ _.
         IsOfCampaign L.LeaderIdentity id (vote_of state.new).leader_id) }
+    ensures members { IfSome result (λ _.
+        state.new.membership_state ≡ state.old.membership_state) }
 {
     let Ok(mut candidate) = step::campaigns::<u64, EmptyNode, u64, L, C, u64>(id, term, state)
     else {
@@ -80,11 +87,44 @@ pub fn writes<
     ensures run { IfSome result (λ _. LeadsAlone ℕ ⟦<u64 as Ord>⟧ ⟦<EmptyNode as PartialEq>⟧.eq
         L.LeaderIdentity C.Ord
         state.old state.new leader.now leader.now) }
+    ensures vote { IfSome result (λ _. vote_of state.new ≡ vote_of state.old) }
+    ensures members { IfSome result (λ _.
+        state.new.membership_state ≡ state.old.membership_state) }
 {
     let Some(_last) = state.last_log_id().copied() else {
         return None;
     };
     let Ok(_entry) = step::proposes_blank::<u64, EmptyNode, u64, L, C, u64>(leader, state) else {
+        return None;
+    };
+    Some(())
+}
+
+/// A server is elected, as in `wins`, and writes a blank entry, which reaches nobody.
+pub fn leads_in_vain<
+    L: LeaderIdentity<Id = u64, Committed = C> + Drop,
+    C: Ord + Copy + Default + Drop + 'static,
+>(
+    id: u64,
+    term: u64,
+    state: &mut State<u64, EmptyNode, u64, L>,
+    voter: &u64,
+    other: &mut State<u64, EmptyNode, u64, L>,
+) -> Option<()>
+    ensures run { IfSome result (λ _. LeadsInVain ℕ ⟦<u64 as Ord>⟧ ⟦<EmptyNode as PartialEq>⟧.eq
+        L.LeaderIdentity C.Ord id voter.now
+        state.old state.new other.old other.new) }
+    ensures of_campaign { IfSome result (λ _.
+        IsOfCampaign L.LeaderIdentity id (vote_of state.new).leader_id) }
+    ensures members { IfSome result (λ _.
+        state.new.membership_state ≡ state.old.membership_state) }
+{
+    let Some(leader) = wins(id, term, state, voter, other) else {
+        return None;
+    };
+    let wrote = writes(&leader, state);
+    drop(leader);
+    let Some(()) = wrote else {
         return None;
     };
     Some(())
@@ -152,41 +192,36 @@ pub fn sends<
     };
     Some(AppendEntries {
         leader_id: state.vote_ref().leader_id,
-        request: Some(id),
+        request: RequestNumber::InFlight(id),
         prev,
         entries,
         committed: state.committed,
     })
 }
 
-/// A leader that waits for an answer sends a heartbeat about its last log id.
+/// A leader sends a heartbeat to a follower.
 pub fn beats<
     L: LeaderIdentity<Id = u64, Committed = C> + Drop,
     C: Ord + Copy + Default + Drop + 'static,
 >(
-    leader: &mut Leader<u64, EmptyNode, C>,
+    leader: &Leader<u64, EmptyNode, C>,
     state: &State<u64, EmptyNode, u64, L>,
     to: &u64,
     alloc: Global,
 ) -> Option<AppendEntries<L, C, u64, EmptyNode, u64>>
     ensures run { IfSome result (Sends ℕ ⟦<u64 as Ord>⟧ ⟦<EmptyNode as PartialEq>⟧.eq
         L.LeaderIdentity C.Ord
-        state.now leader.old leader.new) }
+        state.now leader.now leader.now) }
     ensures own { IfSome result (λ request. request.leader_id ≡ (vote_of state.now).leader_id) }
 {
-    let Some(sending) = step::sends::<u64, EmptyNode, u64, L, C, u64>(leader, state, to, 64) else {
-        return None;
-    };
-    let InflightOf::None = sending else {
-        return None;
-    };
-    let Some(last) = state.last_log_id().copied() else {
+    let Some(heartbeat) = step::sends_heartbeat::<u64, EmptyNode, u64, L, C, u64>(leader, state, to)
+    else {
         return None;
     };
     Some(AppendEntries {
         leader_id: state.vote_ref().leader_id,
-        request: None,
-        prev: state.get_log_id(last.index),
+        request: heartbeat.request,
+        prev: heartbeat.prev,
         entries: Vec::new(alloc),
         committed: state.committed,
     })
@@ -215,11 +250,36 @@ pub fn exchanges<
     Some(made.0.outcome)
 }
 
-/// A leader, whose log is on disk, counts itself, and commits what a quorum has.
+/// A leader sends a heartbeat to a follower, and takes the answer. Returns what it is.
+pub fn asks<
+    L: LeaderIdentity<Id = u64, Committed = C> + Drop,
+    C: Ord + Copy + Default + Drop + 'static,
+>(
+    leader: &mut Leader<u64, EmptyNode, C>,
+    state: &State<u64, EmptyNode, u64, L>,
+    to: &u64,
+    follower: &mut State<u64, EmptyNode, u64, L>,
+    alloc: Global,
+) -> Option<Outcome<L, C>>
+    ensures run { IfSome result (λ outcome. LeadsBack ℕ ⟦<u64 as Ord>⟧ ⟦<EmptyNode as PartialEq>⟧.eq
+        L.LeaderIdentity C.Ord to.now
+        state.now follower.old follower.new outcome leader.old leader.new) }
+{
+    let Some(request) = beats(leader, state, to, alloc) else {
+        return None;
+    };
+    exchanges(leader, to, follower, &request)
+}
+
+/// A leader, whose log is on disk, counts itself, and commits what a quorum has. Returns the log id
+/// up to which its log is committed then.
 pub fn commits<
     L: LeaderIdentity<Id = u64, Committed = C> + Drop,
     C: Ord + Copy + Default + Drop + 'static,
->(leader: &mut Leader<u64, EmptyNode, C>, state: &mut State<u64, EmptyNode, u64, L>) -> Option<bool>
+>(
+    leader: &mut Leader<u64, EmptyNode, C>,
+    state: &mut State<u64, EmptyNode, u64, L>,
+) -> Option<LogIdOf<C>>
     ensures run { IfSome result (λ _. LeadsAlone ℕ ⟦<u64 as Ord>⟧ ⟦<EmptyNode as PartialEq>⟧.eq
         L.LeaderIdentity C.Ord
         state.old state.new leader.old leader.new) }
@@ -228,13 +288,14 @@ pub fn commits<
     let Ok(()) = leader.handle_flushed(state, upto) else {
         return None;
     };
-    let Ok(more) = step::commits::<u64, EmptyNode, u64, L, C, u64>(leader, state) else {
+    let Ok(committed) = step::commits::<u64, EmptyNode, u64, L, C, u64>(leader, state) else {
         return None;
     };
-    Some(more)
+    committed
 }
 
-/// A leader writes an entry, replicates it to a follower, and commits it.
+/// A leader writes an entry, replicates it to a follower, and commits it. Returns the log id up to
+/// which its log is committed then.
 pub fn replicates<
     L: LeaderIdentity<Id = u64, Committed = C> + Drop,
     C: Ord + Copy + Default + Drop + 'static,
@@ -244,7 +305,7 @@ pub fn replicates<
     to: &u64,
     follower: &mut State<u64, EmptyNode, u64, L>,
     members: &Membership<u64, EmptyNode>,
-) -> Option<bool>
+) -> Option<LogIdOf<C>>
     ensures run { IfSome result (λ _. LeadsWith ℕ ⟦<u64 as Ord>⟧ ⟦<EmptyNode as PartialEq>⟧.eq
         L.LeaderIdentity C.Ord to.now
         state.old state.new follower.old follower.new leader.old leader.new) }
@@ -261,9 +322,10 @@ pub fn replicates<
     commits(leader, state)
 }
 
-/// A leader hears of a follower again. A first request is lost. The answer to a heartbeat is that the
-/// logs conflict. Then the follower takes the entries that are sent again. Returns the answer to the
-/// heartbeat.
+/// A leader hears of a follower again. A first request is lost. The answer to a heartbeat is that
+/// the logs conflict, and the answer to the next one that they match, so nothing is in flight any
+/// more. Then the follower takes the entries that are sent again. Returns the answers to the
+/// heartbeats.
 pub fn hears_again<
     L: LeaderIdentity<Id = u64, Committed = C> + Drop,
     C: Ord + Copy + Default + Drop + 'static,
@@ -273,28 +335,28 @@ pub fn hears_again<
     to: &u64,
     follower: &mut State<u64, EmptyNode, u64, L>,
     members: &Membership<u64, EmptyNode>,
-) -> Option<Outcome<L, C>>
-    ensures run { IfSome result (λ outcome. LeadsBack ℕ ⟦<u64 as Ord>⟧ ⟦<EmptyNode as PartialEq>⟧.eq
-        L.LeaderIdentity C.Ord to.now
-        state.now follower.old follower.new outcome leader.old leader.new) }
+) -> Option<(Outcome<L, C>, Outcome<L, C>)>
+    ensures run { IfSome result (λ answers. HearsAgain
+        ℕ ⟦<u64 as Ord>⟧ ⟦<EmptyNode as PartialEq>⟧.eq L.LeaderIdentity C.Ord to.now
+        state.now follower.old follower.new answers.0 answers.1 leader.old leader.new) }
 {
+    let alloc = *members.get_joint_config().allocator();
     let Some(_lost) = sends(leader, state, to, members) else {
         return None;
     };
-    let Some(heartbeat) = beats(leader, state, to, *members.get_joint_config().allocator()) else {
+    let Some(cut) = asks(leader, state, to, follower, alloc) else {
         return None;
     };
-    let Some(answer) = exchanges(leader, to, follower, &heartbeat) else {
+    let Some(found) = asks(leader, state, to, follower, alloc) else {
         return None;
     };
-    leader.give_up(to);
     let Some(request) = sends(leader, state, to, members) else {
         return None;
     };
     let Some(_outcome) = exchanges(leader, to, follower, &request) else {
         return None;
     };
-    Some(answer)
+    Some((cut, found))
 }
 
 /// A new server, in a cluster with these members.
@@ -320,8 +382,9 @@ fn server<
     Some(state)
 }
 
-/// The story: the first server is elected and writes an entry, the third one replicates and commits
-/// another one, and hears of the first one again. Returns what the first one has answered then.
+/// The story: the first server and then the third one are elected and write an entry. The third one
+/// is elected again, replicates and commits its log, and hears of the first one again. Returns what
+/// the first one has answered to its heartbeats then.
 pub fn tell<
     L: LeaderIdentity<Id = u64, Committed = C> + Drop,
     C: Ord + Copy + Default + Drop + 'static,
@@ -330,26 +393,24 @@ pub fn tell<
     two: &mut State<u64, EmptyNode, u64, L>,
     three: &mut State<u64, EmptyNode, u64, L>,
     members: &Membership<u64, EmptyNode>,
-) -> Option<Outcome<L, C>>
-    ensures tells { IfSome result (TellsStory ℕ ⟦<u64 as Ord>⟧ ⟦<EmptyNode as PartialEq>⟧.eq
-        L.LeaderIdentity C.Ord
-        1 2 3 one.old two.old three.old one.new two.new three.new) }
+) -> Option<(Outcome<L, C>, Outcome<L, C>)>
+    ensures tells { IfSome result (λ answers. TellsStory
+        ℕ ⟦<u64 as Ord>⟧ ⟦<EmptyNode as PartialEq>⟧.eq L.LeaderIdentity C.Ord
+        1 2 3 one.old two.old three.old one.new two.new three.new answers.0 answers.1) }
 {
-    let Some(first) = wins(1, 0, one, &2, two) else {
+    let Some(()) = leads_in_vain(1, 0, one, &2, two) else {
         return None;
     };
-    let wrote = writes(&first, one);
-    drop(first);
-    let Some(()) = wrote else {
+    let Some(()) = leads_in_vain(3, 1, three, &2, two) else {
         return None;
     };
-    let Some(mut second) = wins(3, 1, three, &2, two) else {
+    let Some(mut leader) = wins(3, 2, three, &2, two) else {
         return None;
     };
-    let Some(_more) = replicates(&mut second, three, &2, two, members) else {
+    let Some(_committed) = replicates(&mut leader, three, &2, two, members) else {
         return None;
     };
-    hears_again(&mut second, three, &1, one, members)
+    hears_again(&mut leader, three, &1, one, members)
 }
 
 /// Reads what is known of a server.
@@ -388,13 +449,14 @@ pub fn three_servers<
     let two = knows(&servers.0.1);
     let three = knows(&servers.1);
     drop(servers);
-    let Some(cut) = told else {
+    let Some(answers) = told else {
         return None;
     };
     Some(Story {
         one,
         two,
         three,
-        cut,
+        cut: answers.0,
+        found: answers.1,
     })
 }

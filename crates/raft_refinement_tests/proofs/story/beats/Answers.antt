@@ -1,12 +1,11 @@
-use Rattle.std.specs.Prelude.{ℕ, Some, None, nat_eq}
+use Rattle.std.specs.Prelude.{ℕ, Some, nat_eq}
 use Rattle.std.specs.Cmp.{nat_eq_equiv}
 use Rattle.std.specs.Ordering.{nat_cmp}
 use Rattle.raft_handlers.specs.Compared.{LeaderMembers}
 use Rattle.raft_progress.specs.progress.Comparisons.{OrdMembers}
 use Rattle.std.proofs.Common.{refl, ap}
 use Rattle.raft_handlers.specs.declared.message.AppendEntries.{AppendEntries}
-use Rattle.raft_refinement_tests.proofs.StoryLemmas.{carries_none, none_logged, sends}
-use Rattle.raft_state.specs.log_id_list.FullLog.{full_log}
+use Rattle.raft_refinement_tests.proofs.StoryLemmas.{beats}
 use Rattle.raft_refinement_tests.proofs.story.beats.Goals as goal
 
 pub returns : goal.returns
@@ -30,17 +29,13 @@ returns g c =
     } in
     let request : AppendEntries _ _ _ _ _ = record {
       leader_id = c.vote_ref.result.now.leader_id;
-      request = None;
-      prev = c.get_log_id.result;
+      request = c.in-Some.heartbeat.request;
+      prev = c.in-Some.heartbeat.prev;
       entries = c.new.result;
       committed = c.args.state.now.committed;
     } in
     record {
-      run = sends ℕ ℕ ids _ kind logs nat_eq_equiv c.args.state.now c.args.to.now 64 c.args.leader.now c.sends.new.leader
-          c.in-Some.sending request
-          c.in-Some.ensures.step c.in-Some.ensures.call (ap (λ v. v.leader_id) c.vote_ref.ensures)
-          (carries_none (full_log c.args.state.now.log_ids) c.in-Some.sending c.in-Some-copied.last.index c.get_log_id.result c.in-None.is
-          c.get_log_id.ensures)
-          (none_logged (full_log c.args.state.now.log_ids) c.new.result.items c.new.ensures.items) refl;
+      run = beats ℕ ℕ ids _ kind logs nat_eq_equiv c.args.state.now c.args.leader.now c.in-Some.heartbeat request c.in-Some.ensures.step
+          (ap (λ v. v.leader_id) c.vote_ref.ensures) refl c.new.ensures.items refl;
       own = ap (λ v. v.leader_id) c.vote_ref.ensures;
     }

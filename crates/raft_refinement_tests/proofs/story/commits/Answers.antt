@@ -3,7 +3,7 @@ use Rattle.std.specs.Cmp.{nat_eq_equiv}
 use Rattle.std.specs.Ordering.{nat_cmp}
 use Rattle.raft_handlers.specs.Compared.{LeaderMembers}
 use Rattle.raft_progress.specs.progress.Comparisons.{OrdMembers}
-use Rattle.raft_refinement_tests.proofs.StoryLemmas.{commits}
+use Rattle.raft_refinement_tests.proofs.StoryLemmas.{commits, whenever}
 use Rattle.raft_refinement_tests.proofs.story.commits.Goals as goal
 
 pub returns : goal.returns
@@ -27,8 +27,9 @@ returns g c =
     } in
     let flushed = c.in-Ok.ensures in
     record {
-      run = commits ℕ ℕ ids _ kind logs nat_eq_equiv c.args.state.now c.commits.new.state c.args.leader.now c.handle_flushed.new.self
-          c.copied-upto.result
-          c.in-Ok-commits.more flushed.logged flushed.counted c.handle_flushed.ensures.stale c.handle_flushed.ensures.not_counted
-          c.handle_flushed.ensures.members c.handle_flushed.ensures.node c.in-Ok-commits.ensures.step c.in-Ok-commits.ensures.call;
+      run = whenever c.in-Ok-commits.committed
+          (commits ℕ ℕ ids _ kind logs nat_eq_equiv c.args.state.now c.commits.new.state c.args.leader.now c.handle_flushed.new.self
+          c.copied-upto.result c.in-Ok-commits.committed flushed.logged flushed.counted c.handle_flushed.ensures.stale
+          c.handle_flushed.ensures.not_counted c.handle_flushed.ensures.members c.handle_flushed.ensures.node
+          c.in-Ok-commits.ensures.step c.in-Ok-commits.ensures.call);
     }

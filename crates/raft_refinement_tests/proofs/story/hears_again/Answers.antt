@@ -26,10 +26,9 @@ returns g c =
       same_as = g.L.LeaderIdentity.same_as;
     } in
     record {
-      run = hears_again ℕ ℕ ids _ kind logs nat_eq_equiv c.args.to.now c.args.state.now c.args.follower.now c.exchanges.new.follower
-          c.exchanges-2.new.follower c.args.leader.now c.sends.new.leader c.beats.new.leader c.exchanges.new.leader c.give_up.new.self
-          c.sends-2.new.leader c.exchanges-2.new.leader c.in-Some._lost c.in-Some-beats.heartbeat c.in-Some-sends.request
-          c.in-Some-exchanges.answer c.in-Some-exchanges-2._outcome c.in-Some.ensures.run c.in-Some-beats.ensures.run
-          c.in-Some-beats.ensures.own c.in-Some-exchanges.ensures.run c.give_up.ensures.unknown c.give_up.ensures.idle
-          c.in-Some-sends.ensures.run c.in-Some-sends.ensures.own c.in-Some-exchanges-2.ensures.run;
+      run = hears_again ℕ ℕ ids _ kind logs nat_eq_equiv c.args.to.now c.args.state.now c.args.follower.now c.asks.new.follower
+          c.asks-2.new.follower c.exchanges.new.follower c.args.leader.now c.sends.new.leader c.asks.new.leader c.asks-2.new.leader
+          c.sends-2.new.leader c.exchanges.new.leader c.in-Some._lost c.in-Some-sends.request c.in-Some-asks.cut
+          c.in-Some-asks-2.found c.in-Some-exchanges._outcome c.in-Some.ensures.run c.in-Some-asks.ensures.run
+          c.in-Some-asks-2.ensures.run c.in-Some-sends.ensures.run c.in-Some-sends.ensures.own c.in-Some-exchanges.ensures.run;
     }

@@ -27,7 +27,7 @@ returns g c =
     } in
     record {
       run = if_some c.commits.result c.commits.ensures.run
-          (λ more commit.
+          (λ committed commit.
           replicates ℕ ℕ ids _ kind logs nat_eq_equiv c.args.to.now c.args.state.now c.writes.new.state c.commits.new.state
           c.args.follower.now
           c.exchanges.new.follower c.args.leader.now c.sends.new.leader c.exchanges.new.leader c.commits.new.leader

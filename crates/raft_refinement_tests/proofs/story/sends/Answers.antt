@@ -5,6 +5,7 @@ use Rattle.raft_handlers.specs.Compared.{LeaderMembers}
 use Rattle.raft_progress.specs.progress.Comparisons.{OrdMembers}
 use Rattle.std.proofs.Common.{refl, ap}
 use Rattle.raft_handlers.specs.declared.message.AppendEntries.{AppendEntries}
+use Rattle.raft_handlers.specs.declared.message.RequestNumber.TheVariants.{InFlight}
 use Rattle.raft_refinement_tests.proofs.StoryLemmas.{carries_logs, sends}
 use Rattle.raft_state.specs.log_id_list.FullLog.{full_log}
 use Rattle.raft_refinement_tests.proofs.story.sends.Goals as goal
@@ -30,7 +31,7 @@ returns g c =
     } in
     let request : AppendEntries _ _ _ _ _ = record {
       leader_id = c.vote_ref.result.now.leader_id;
-      request = Some c.in-Logs.id;
+      request = InFlight c.in-Logs.id;
       prev = c.in-Logs.log_id_range.prev;
       entries = c.in-Some-entries.entries;
       committed = c.args.state.now.committed;

@@ -3,7 +3,7 @@ use Rattle.std.specs.Cmp.{nat_eq_equiv}
 use Rattle.std.specs.Ordering.{nat_cmp}
 use Rattle.raft_handlers.specs.Compared.{LeaderMembers}
 use Rattle.raft_progress.specs.progress.Comparisons.{OrdMembers}
-use Rattle.raft_refinement_tests.proofs.StoryLemmas.{if_some, some_of, tells}
+use Rattle.raft_refinement_tests.proofs.StoryLemmas.{if_some, tells}
 use Rattle.raft_refinement_tests.proofs.story.tell.Goals as goal
 
 pub returns : goal.returns
@@ -27,11 +27,11 @@ returns g c =
     } in
     record {
       tells = if_some c.hears_again.result c.hears_again.ensures.run
-          (λ answer back.
-          tells ℕ ℕ ids _ kind logs nat_eq_equiv 1 2 3 c.args.one.now c.wins.new.state c.writes-wrote.new.state
-          c.hears_again.new.follower c.args.two.now c.wins.new.other c.wins-2.new.other c.replicates.new.follower c.args.three.now
-          c.wins-2.new.state c.replicates.new.state c.in-Some.first c.in-Some-wins.second c.replicates.new.leader
-          c.hears_again.new.leader answer c.in-Some.ensures.run c.in-Some.ensures.of_campaign
-          (some_of _ c.writes-wrote.result tt c.in-Some-wrote.is c.writes-wrote.ensures.run) c.in-Some-wins.ensures.run
-          c.in-Some-wins.ensures.of_campaign c.in-Some-replicates.ensures.run back);
+          (λ answers back.
+          tells ℕ ℕ ids _ kind logs nat_eq_equiv 1 2 3 c.args.one.now c.leads_in_vain.new.state c.hears_again.new.follower
+          c.args.two.now c.leads_in_vain.new.other c.leads_in_vain-2.new.other c.wins.new.other c.replicates.new.follower
+          c.args.three.now c.leads_in_vain-2.new.state c.wins.new.state c.replicates.new.state c.in-Some-wins.leader
+          c.replicates.new.leader c.hears_again.new.leader answers.0 answers.1 c.in-Some.ensures.run c.in-Some.ensures.of_campaign
+          c.in-Some-leads_in_vain.ensures.run c.in-Some-leads_in_vain.ensures.of_campaign c.in-Some-leads_in_vain.ensures.members
+          c.in-Some-wins.ensures.run c.in-Some-wins.ensures.of_campaign c.in-Some-replicates.ensures.run back);
     }

@@ -35,7 +35,7 @@ returns g c =
           (record { nodes = equal_numbers; leaders = c.requires.exact })
           (record { one_two = refl; one_three = refl; two_three = refl }) g.met.L.LeaderIdentity.made c.requires.one_default
           c.requires.one_term
-          all.0 all.1 all.2 (some_of _ c.tell-told.result c.in-Some-told.cut c.in-Some-told.is c.tell-told.ensures.tells)
+          all.0 all.1 all.2 (some_of _ c.tell-told.result c.in-Some-told.answers c.in-Some-told.is c.tell-told.ensures.tells)
           c.knows-one.ensures
           c.knows-two.ensures c.knows-three.ensures;
     }

@@ -3,6 +3,7 @@ use Rattle.std.specs.Cmp.{nat_eq_equiv}
 use Rattle.std.specs.Ordering.{nat_cmp}
 use Rattle.raft_handlers.specs.Compared.{LeaderMembers}
 use Rattle.raft_progress.specs.progress.Comparisons.{OrdMembers}
+use Rattle.std.proofs.Common.{ap, ◌∙◌}
 use Rattle.raft_refinement_tests.proofs.StoryLemmas.{of_campaign, ok_of, wins}
 use Rattle.raft_refinement_tests.proofs.story.wins.Goals as goal
 
@@ -40,4 +41,5 @@ returns g c =
           c.leads-made.new.state c.args.other.now c.answers_candidate-response.new.state c.in-Ok.candidate c.counts.new.candidate
           c.answers_candidate-response.result c.in-Ok-made.leader g.met.C.Eq.laws g.met.L.LeaderIdentity.made c.in-Ok.ensures.call
           counted.call counted.ignored call;
+      members = ap (λ x. x.membership_state) call.committed ∙ ap (λ x. x.membership_state) c.in-Ok.ensures.call.promised;
     }

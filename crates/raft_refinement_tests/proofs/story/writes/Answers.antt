@@ -3,7 +3,8 @@ use Rattle.std.specs.Cmp.{nat_eq_equiv}
 use Rattle.std.specs.Ordering.{nat_cmp}
 use Rattle.raft_handlers.specs.Compared.{LeaderMembers}
 use Rattle.raft_progress.specs.progress.Comparisons.{OrdMembers}
-use Rattle.std.proofs.Common.{sym, ◌∙◌}
+use Rattle.std.proofs.Common.{ap, sym, ◌∙◌}
+use Rattle.raft_state.specs.raft_state.VoteAndLog.{vote_of}
 use Rattle.raft_refinement_tests.proofs.StoryLemmas.{writes}
 use Rattle.raft_refinement_tests.proofs.story.writes.Goals as goal
 
@@ -30,4 +31,6 @@ returns g c =
       run = writes ℕ ℕ ids _ kind logs nat_eq_equiv c.args.state.now c.proposes_blank.new.state c.args.leader.now _ c.in-Ok._entry
           c.in-Some._last
           (sym (c.copied.ensures ∙ c.last_log_id.ensures) ∙ c.in-Some.is) c.in-Ok.ensures.step c.in-Ok.ensures.call;
+      vote = ap vote_of c.in-Ok.ensures.call.rest;
+      members = c.in-Ok.ensures.call.memberships;
     }
