@@ -211,6 +211,7 @@ ORDER = {
     "raft_members": "quorum membership change_members error",
     "raft_progress": "progress tracked laws inflight entry search catch_up",
     "raft_safety": "laws scenarios event entry term rule checker check merge memberships",
+    "raft_judge": "run",
     "raft_state": "log_id_list entry membership_state raft_state vote_state_reader accepted io_state snapshot_meta",
 }
 # What a page shows of an implementation of one of std's traits.

@@ -1,30 +1,10 @@
 //! Judges a recorded run of a Raft cluster: one event a line, as JSON.
 #![tactic(auto)]
 
-mod chart;
-mod counted;
-mod counts;
-mod event;
-mod facts;
-mod fault;
-mod field;
-mod fill;
-mod followed;
-mod input;
-mod judge;
-mod names;
-mod progress;
-mod run;
-mod start;
-#[cfg(test)]
-mod tests;
-mod text;
-mod why;
 mod words;
 
-use crate::input::Lines;
-use crate::progress::Progress;
 use clap::ArgMatches;
+use raft_judge::{Lines, Progress, run};
 use std::alloc::AllocError;
 use std::fs::File;
 use std::io::{BufReader, Read, Stdin};

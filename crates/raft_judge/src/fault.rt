@@ -1,0 +1,57 @@
+//! Why a line is not taken.
+ghost use Rattle.std.specs.Prelude.{◌≡◌};
+ghost use Rattle.raft_safety.specs.declared.checker.violation.Violation.TheVariants.{OutOfMemory};
+ghost use Rattle.raft_judge.specs.declared.fault.Fault.TheVariants.{Refused};
+
+use raft_safety::checker::Violation;
+use raft_safety::rule::Rule;
+use std::alloc::AllocError;
+
+/// Why a line is not taken.
+#[derive(Clone, Copy)]
+pub enum Fault {
+    /// It is no event.
+    Malformed,
+    /// It has not the index after that of the last entry of its leader, which is this one.
+    Skips(u64),
+    /// It breaks a rule, or there is no memory for it.
+    Refused(Violation),
+}
+
+impl Fault {
+    ghost use Rattle.std.specs.Prelude.{IsTrue};
+    ghost use Rattle.raft_judge.specs.Inner.Taken.{IsBroken};
+
+    /// Whether the line breaks a rule, or has not the next index of its leader.
+    pub fn is_broken(&self) -> bool
+        ensures { IsTrue result → IsBroken self.now }
+    {
+        matches!(self, Fault::Skips(_) | Fault::Refused(Violation::Rule(_)))
+    }
+
+    /// Whether a leader counted by a config that is not known, or has no quorum of it.
+    pub fn is_of_config(&self) -> bool
+        ensures { IsTrue result → IsBroken self.now }
+    {
+        matches!(
+            self,
+            Fault::Refused(Violation::Rule(Rule::UnknownConfig | Rule::NoQuorum))
+        )
+    }
+}
+
+impl From<AllocError> for Fault {
+    ghost from_gives = { λ _ f. f ≡ Refused OutOfMemory };
+
+    fn from(_error: AllocError) -> Fault {
+        Fault::Refused(Violation::OutOfMemory)
+    }
+}
+
+impl From<Violation> for Fault {
+    ghost from_gives = { λ v f. f ≡ Refused v };
+
+    fn from(violation: Violation) -> Fault {
+        Fault::Refused(violation)
+    }
+}

@@ -1,0 +1,20 @@
+//! The first caller, as it is printed on the page for callers. The tests judge their runs by it.
+ghost use Rattle.std.specs.Prelude.{◌≡◌, IfOk};
+ghost use Rattle.raft_judge.specs.Input.{lines};
+ghost use Rattle.raft_judge.specs.Numbers.{number_tests};
+ghost use Rattle.raft_judge.specs.Run.{SafeRun};
+
+use raft_judge::run::run;
+use raft_judge::{Lines, Progress};
+use std::alloc::{AllocError, Global};
+
+/// Returns the exit status for a run, whose lines are those of a text, and the answer to it.
+pub fn judged(alloc: Global, text: &str) -> Result<(u8, String), AllocError>
+    ensures { IfOk result (λ r. r.0 ≡ 0 → SafeRun number_tests (lines text.now)) }
+{
+    let mut answer = String::new(alloc);
+    let mut lists = Vec::new(alloc);
+    lists.push(Lines::new(alloc, text.as_bytes(), None))?;
+    let status = run(alloc, &mut lists, Progress::silent(), false, &mut answer);
+    Ok((status, answer))
+}
