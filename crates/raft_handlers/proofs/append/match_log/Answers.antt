@@ -101,8 +101,8 @@ returns-in_err-changes-clause-refuses g c =
     let has : purged_or_logged g.C.PartialEq.eq s r.prev ≡ true = search rules in
     let why = rw id at c.in_err-changes.ensures.refuses in
     let refuses : RefusesToMatch ord g.NID.PartialEq.eq g.N.PartialEq.eq r c.in_err-changes.field-0.0 s new = record {
-      refuses = matched_refused ord g.NID.PartialEq.eq g.N.PartialEq.eq r.prev r.entries.items (lesser_id g.C.Ord.cmp r.committed last) s new
-          c.in_err-changes.field-0.0 has why.refused;
+      refuses = matched_refused ord g.NID.PartialEq.eq g.N.PartialEq.eq r.prev r.entries.items
+          (lesser_id g.C.Ord.cmp r.committed last) s new c.in_err-changes.field-0.0 has why.refused;
       needed = λ nothing. why.needed nothing.has_entries
           (not_past_least g.C.Ord.cmp g.met.C.Ord.total r.committed last s.committed nothing.committed);
       rest = why.rest;
