@@ -1,5 +1,6 @@
 -- What a request to a member, and a response of it, make of what a leader knows of it.
-use Rattle.std.specs.Prelude.{◌≡◌, ℕ, nat_eq, Bool, true, false, if◌then◌else◌, Option, Some, None, Result, Ok, Err, IsOk, OnErr, refl, option_map}
+use Rattle.std.specs.Prelude.{◌≡◌, ℕ, nat_eq, Bool, true, false, if◌then◌else◌}
+use Rattle.std.specs.Prelude.{Option, Some, None, Result, Ok, Err, IsOk, OnErr, refl, option_map}
 use Rattle.std.specs.Cmp.{IsEquivalence, IsTotalOrder}
 use Rattle.std.specs.Map.{update}
 use Rattle.std.specs.Result.{result_unwrap_or}
