@@ -102,7 +102,8 @@ pub fn push_fault(
             Ok(1)
         }
         Fault::Refused(Violation::Rule(rule)) => {
-            push_event(alloc, answer, &value_or_null(alloc, line)?)?;
+            let value = value_or_null(alloc, line)?;
+            push_words(alloc, answer, &value, event_words(&value))?;
             writeln!(answer, ": {rule}")?;
             Ok(1)
         }
@@ -121,30 +122,52 @@ fn push_skip(
     value: &Value,
     last: u64,
 ) -> Result<(), AllocError> {
-    let leader = shown(alloc, value, "leader")?;
-    let term = shown(alloc, value, "term")?;
     let index = number(value, "index").unwrap_or(0);
     let reason = if last < index {
         "so a line is missing"
     } else {
         "so the leader has it already"
     };
-    writeln!(
-        answer,
-        "leader {leader} writes index {index} in term {term}: its last entry has index {last}, {reason}"
-    )?;
+    let words = "leader {leader} writes index {index} in term {term}: ";
+    push_words(alloc, answer, value, words)?;
+    writeln!(answer, "its last entry has index {last}, {reason}")?;
     Ok(())
 }
 
-/// Returns a field as JSON has it. If it is a long text, two dots stand for its end.
-fn shown(alloc: Global, value: &Value, name: &str) -> Result<String, AllocError> {
-    let mut text = String::new(alloc);
+/// Writes words, with the field of a line in place of each name in braces.
+fn push_words(
+    alloc: Global,
+    answer: &mut String,
+    value: &Value,
+    words: &str,
+) -> Result<(), AllocError> {
+    for part in words.split('{') {
+        match part.split_once('}') {
+            Some((name, rest)) => {
+                push_field(alloc, answer, value, name)?;
+                answer.push_str(rest)?;
+            }
+            None => answer.push_str(part)?,
+        }
+    }
+    Ok(())
+}
+
+/// Writes a field as JSON has it. If it is a long text, two dots stand for its end.
+fn push_field(
+    alloc: Global,
+    answer: &mut String,
+    value: &Value,
+    name: &str,
+) -> Result<(), AllocError> {
     let field = value.get(name).unwrap_or(&Value::Null);
     match field.as_str() {
-        Some(long) => push_text(alloc, &mut text, long)?,
-        None => write!(text, "{field}")?,
+        Some(long) => push_text(alloc, answer, long),
+        None => {
+            write!(answer, "{field}")?;
+            Ok(())
+        }
     }
-    Ok(text)
 }
 
 /// Returns why the value of a line is no event.
@@ -183,44 +206,22 @@ fn reason(is_first: bool, value: &Value) -> &'static str {
     }
 }
 
-/// Writes what an event says, with names as JSON has them.
-fn push_event(alloc: Global, answer: &mut String, value: &Value) -> Result<(), AllocError> {
-    let server = shown(alloc, value, "server")?;
-    let leader = shown(alloc, value, "leader")?;
-    let term = shown(alloc, value, "term")?;
-    let index = shown(alloc, value, "index")?;
+/// Returns what an event says, with the names of fields in braces.
+fn event_words(value: &Value) -> &'static str {
     match event_name(value).unwrap_or("") {
-        "campaigned" => write!(answer, "server {server} campaigns in term {term}")?,
-        "granted" => {
-            let candidate = shown(alloc, value, "candidate")?;
-            write!(
-                answer,
-                "server {server} votes in term {term} for {candidate}"
-            )?;
-        }
-        "appended" if value.get("entries").is_none() => write!(
-            answer,
+        "campaigned" => "server {server} campaigns in term {term}",
+        "granted" => "server {server} votes in term {term} for {candidate}",
+        "appended" if value.get("entries").is_none() => {
             "server {server} installs a snapshot up to index {index} of {leader} in term {term}"
-        )?,
-        "appended" => {
-            let prev = shown(alloc, value, "prev")?;
-            write!(
-                answer,
-                "server {server} takes entries after index {prev} from {leader} in term {term}"
-            )?;
         }
-        "acked" => write!(
-            answer,
-            "server {server} acknowledges index {index} to {leader} in term {term}"
-        )?,
-        "restarted" => write!(answer, "server {server} restarts with index {index}")?,
-        "wrote" => write!(answer, "leader {leader} writes an entry in term {term}")?,
-        "committed" => write!(
-            answer,
-            "leader {leader} commits index {index} in term {term}"
-        )?,
-        "applied" => write!(answer, "server {server} applies up to index {index}")?,
-        _ => write!(answer, "the cluster starts")?,
+        "appended" => {
+            "server {server} takes entries after index {prev} from {leader} in term {term}"
+        }
+        "acked" => "server {server} acknowledges index {index} to {leader} in term {term}",
+        "restarted" => "server {server} restarts with index {index}",
+        "wrote" => "leader {leader} writes an entry in term {term}",
+        "committed" => "leader {leader} commits index {index} in term {term}",
+        "applied" => "server {server} applies up to index {index}",
+        _ => "the cluster starts",
     }
-    Ok(())
 }

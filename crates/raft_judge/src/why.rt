@@ -29,24 +29,7 @@ pub fn push_why<B>(
         judge,
         value: &value,
     };
-    match (event_name(&value).unwrap_or(""), rule) {
-        ("granted" | "campaigned", Rule::PassedTerm | Rule::CampaignedTwice) => {
-            refused.push_vote(answer, refused.term())
-        }
-        ("appended", Rule::PassedTerm) => {
-            refused.push_vote(answer, refused.term().saturating_add(1))
-        }
-        ("granted", Rule::CandidateBehind) => {
-            refused.push_campaign(answer)?;
-            refused.push_last_entry(answer)
-        }
-        ("restarted", Rule::LostAcked) => refused.push_ack(answer),
-        ("appended", Rule::ForeignEntries) => refused.push_foreign(alloc, answer),
-        ("appended", Rule::DropsMatching) => refused.push_dropped(alloc, answer),
-        ("acked", Rule::NotKept) => refused.push_missing(answer, refused.len("index")),
-        ("committed", Rule::EarlierTerm) => refused.push_entry(answer, refused.len("index")),
-        _ => Ok(()),
-    }
+    refused.push_contradicted(alloc, answer, rule)
 }
 
 /// A refused line, and what was judged before it.
@@ -61,6 +44,33 @@ struct RefusedLine<'a, B> {
 }
 
 impl<'a, B> RefusedLine<'a, B> {
+    /// Writes the lines that the line contradicts, which breaks this rule.
+    fn push_contradicted(
+        &self,
+        alloc: Global,
+        answer: &mut String,
+        rule: Rule,
+    ) -> Result<(), AllocError> {
+        match (event_name(self.value).unwrap_or(""), rule) {
+            ("granted" | "campaigned", Rule::PassedTerm | Rule::CampaignedTwice) => {
+                self.push_vote(answer, self.term())
+            }
+            ("appended", Rule::PassedTerm) => {
+                self.push_vote(answer, self.term().saturating_add(1))
+            }
+            ("granted", Rule::CandidateBehind) => {
+                self.push_campaign(answer)?;
+                self.push_last_entry(answer)
+            }
+            ("restarted", Rule::LostAcked) => self.push_ack(answer),
+            ("appended", Rule::ForeignEntries) => self.push_foreign(alloc, answer),
+            ("appended", Rule::DropsMatching) => self.push_dropped(alloc, answer),
+            ("acked", Rule::NotKept) => self.push_missing(answer, self.len("index")),
+            ("committed", Rule::EarlierTerm) => self.push_entry(answer, self.len("index")),
+            _ => Ok(()),
+        }
+    }
+
     /// Returns the server of the line, if it has one.
     fn server(&self) -> Option<u64> {
         id(&self.judge.names, self.value, "server")

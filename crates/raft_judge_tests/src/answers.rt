@@ -270,16 +270,16 @@ fn are_answered(alloc: Global, row: &str, status: u8, answer: &str) -> Result<bo
 
 #[test]
 fn answers_to_lists(rt: HostRuntime) -> Result<(), Fail> {
-    for (row, status, answer) in LISTS {
-        assert!(rt; are_answered(rt.alloc(), row, status, answer)?, "{row}");
+    for (row, status, answer) in &LISTS {
+        assert!(rt; are_answered(rt.alloc(), row, *status, answer)?, "{row}");
     }
     Ok(())
 }
 
 #[test]
 fn answers_to_each_row(rt: HostRuntime) -> Result<(), Fail> {
-    for (row, status, answer) in ROWS {
-        assert!(rt; is_answered(rt.alloc(), row, status, answer)?, "{row}");
+    for (row, status, answer) in &ROWS {
+        assert!(rt; is_answered(rt.alloc(), row, *status, answer)?, "{row}");
     }
     Ok(())
 }

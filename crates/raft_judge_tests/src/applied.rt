@@ -163,8 +163,11 @@ fn is_answered(
 
 #[test]
 fn answers_to_each_way_in_which_configs_count(rt: HostRuntime) -> Result<(), Fail> {
-    for (parts, status, answer) in ROWS {
-        assert!(rt; is_answered(rt.alloc(), parts, status, answer)?, "{answer}");
+    for (parts, status, answer) in &ROWS {
+        assert!(rt;
+            is_answered(rt.alloc(), parts, *status, answer)?,
+            "{answer}"
+        );
     }
     Ok(())
 }

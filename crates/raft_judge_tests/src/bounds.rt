@@ -23,8 +23,8 @@ const ROWS: [(&str, u8, &str); 2] = [
 
 #[test]
 fn answers_to_each_row(rt: HostRuntime) -> Result<(), Fail> {
-    for (row, status, answer) in ROWS {
-        assert!(rt; is_answered(rt.alloc(), row, status, answer)?, "{row}");
+    for (row, status, answer) in &ROWS {
+        assert!(rt; is_answered(rt.alloc(), row, *status, answer)?, "{row}");
     }
     Ok(())
 }

@@ -73,7 +73,7 @@ fn has_rows(alloc: Global, text: &str, rows: &str) -> Result<bool, AllocError> {
 
 #[test]
 fn draws_each_run(rt: HostRuntime) -> Result<(), Fail> {
-    for (text, rows) in CHARTS {
+    for (text, rows) in &CHARTS {
         assert!(rt; has_rows(rt.alloc(), text, rows)?, "{text}");
     }
     Ok(())

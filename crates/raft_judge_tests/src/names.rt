@@ -95,8 +95,8 @@ fn is_answered(alloc: Global, text: &str, status: u8, answer: &str) -> Result<bo
 
 #[test]
 fn answers_to_each_run(rt: HostRuntime) -> Result<(), Fail> {
-    for (text, status, answer) in RUNS {
-        assert!(rt; is_answered(rt.alloc(), text, status, answer)?, "{text}");
+    for (text, status, answer) in &RUNS {
+        assert!(rt; is_answered(rt.alloc(), text, *status, answer)?, "{text}");
     }
     Ok(())
 }
