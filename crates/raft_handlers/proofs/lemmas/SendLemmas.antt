@@ -28,7 +28,7 @@ use Rattle.raft_handlers.specs.Responses.{
 }
 use Rattle.raft_handlers.specs.declared.error.ResponseError.{ResponseError}
 use Rattle.raft_handlers.specs.declared.error.ResponseError.TheVariants.{HigherVote, LateHeartbeat}
-use Rattle.raft_handlers.specs.declared.message.Outcome.TheVariants.{Conflict, HigherVote as RefusedFor}
+use Rattle.raft_handlers.specs.declared.message.Outcome.TheVariants.{HigherVote as RefusedFor}
 use Rattle.raft_handlers.specs.declared.message.RequestNumber.{RequestNumber}
 use Rattle.raft_handlers.specs.declared.message.RequestNumber.TheVariants.{Heartbeat, InFlight}
 use Rattle.raft_handlers.proofs.lemmas.FollowerLemmas.{id_le-refl}

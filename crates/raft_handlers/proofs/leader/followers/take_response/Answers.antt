@@ -2,7 +2,7 @@ use Rattle.std.proofs.Common.{◌≡◌, ◌∙◌, Some, ap, refl}
 use Rattle.std.specs.Option.{option_cmp}
 use Rattle.raft_base.specs.LogId.{log_id_cmp}
 use Rattle.raft_progress.specs.entry.EntryTable.{entry_after_ack}
-use Rattle.raft_progress.specs.tracked.Followers.{IsResponse, member_value}
+use Rattle.raft_progress.specs.tracked.Followers.{member_value}
 use Rattle.raft_progress.specs.tracked.SingleSteps.{IsTrackedUpdate}
 use Rattle.raft_progress.specs.tracked.Tracked.{tracked_view}
 use Rattle.raft_progress.specs.declared.entry.ProgressEntryOf.{ProgressEntryOf}
