@@ -2,7 +2,6 @@ use Rattle.std.proofs.Common.{◌≡◌, ◌∙◌, refl, subst, true}
 use Rattle.raft_base.specs.LogId.{id_le}
 use Rattle.raft_base.specs.declared.log_id.LogIdOf.{LogIdOf}
 use Rattle.raft_handlers.specs.Append.{last_id_of_request}
-use Rattle.raft_handlers.specs.declared.message.RequestNumber.TheVariants.{InFlight}
 use Rattle.raft_progress.specs.declared.entry.ProgressEntryOf.{ProgressEntryOf}
 use Rattle.std.specs.Prelude.{Option}
 use Rattle.raft_handlers_tests.proofs.lemmas.LearnedLemmas.{has_last, learned, outcome_at_least, outcome_match}
