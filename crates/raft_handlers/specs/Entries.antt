@@ -1,5 +1,26 @@
 -- Log ids of entries, and what a log and its memberships are once it is truncated.
-use Rattle.std.specs.Prelude.{◌≡◌, ℕ, Bool, true, false, ◌-◌, ◌&&◌, ◌||◌, nat_le, List, [], ◌∷◌, ◌++◌, Option, Some, None, map, is_some, slice_get, if◌then◌else◌}
+use Rattle.std.specs.Prelude.{
+  ◌≡◌,
+  ℕ,
+  Bool,
+  true,
+  false,
+  ◌-◌,
+  ◌&&◌,
+  ◌||◌,
+  nat_le,
+  List,
+  [],
+  ◌∷◌,
+  ◌++◌,
+  Option,
+  Some,
+  None,
+  map,
+  is_some,
+  slice_get,
+  if◌then◌else◌,
+}
 use Rattle.std.specs.declared.cmp.Ordering.{Ordering}
 use Rattle.raft_base.specs.LogId.{id_le, id_lt, index_of, same_ids}
 use Rattle.raft_base.specs.LogIndex.{index_le, index_lt}
