@@ -84,8 +84,8 @@ abbrev pub after_conflict : {C : Type 0} → ProgressEntryOf C → Option ℕ �
 after_conflict entry request index last =
     with_hint last (entry_after_conflict entry request index)
 
--- what is known of a member that matches up to a log id, of which a request in flight said nothing:
--- this is its match, and nothing is in flight any more
+-- what is known of a member once the response to a heartbeat has raised its match to a log id: nothing
+-- is in flight any more, because the member may have a part of what was
 abbrev pub matched : {C : Type 0} → ProgressEntryOf C → Option (LogIdOf C) → ProgressEntryOf C
 matched entry upto = record entry {
   matching = upto;
