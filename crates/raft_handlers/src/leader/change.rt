@@ -102,7 +102,7 @@ impl<NID: NodeId, N: Node, C: Ord + Copy + Default + Debug + Drop + 'static> Lea
             return Err(ChangeError::Entry(ProposeError::NoNextIndex));
         }
         let stored = members.try_clone()?;
-        // A number that no heartbeat or request has, to the members that are new.
+        // The members that are new begin with a number that no request or heartbeat has had.
         let number = self.last_request.saturating_add(1);
         let followers = self.followers_over(members, last.next_index(), number)?;
         let entry = self.append_own(state, EntryPayload::Membership(stored))?;
