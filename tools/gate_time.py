@@ -32,6 +32,7 @@ BUDGETS = {
     "raft_state": 4000,
     "raft_handlers": 2200,
     "raft_safety": 650,
+    "raft_lines": 60,
     "raft_judge": 1380,
     "raft_refinement": 540,
     "raft_script": 680,

@@ -1,4 +1,3 @@
-pub mod InputLemmas
 pub mod FieldLemmas
 pub mod NameLemmas
 pub mod RunLemmas

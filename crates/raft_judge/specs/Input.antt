@@ -1,11 +1,7 @@
--- The lines of an input.
-use Rattle.std.specs.Prelude.{◌==◌, ℕ, if◌then◌else◌, List, [], ◌∷◌, Option, Some, option_map}
-use Rattle.std.specs.List.{slice_split}
+-- The lines that are left of an input.
+use Rattle.std.specs.Prelude.{ℕ, if◌then◌else◌, List, [], ◌∷◌, Option, Some, option_map}
+use Rattle.raft_lines.specs.Lines.{lines}
 use Rattle.raft_judge.specs.declared.input.Lines.{Lines}
-
--- the lines of a text: the parts between its line feeds
-abbrev pub lines : List ℕ → List (List ℕ)
-lines text = slice_split (λ byte. byte == 10) text
 
 -- the lines that are left of an input whose bytes are known: the pending one, and those after it
 abbrev pub lines_left : {B : Type 0} → (B → Option (List ℕ)) → Lines B → Option (List (List ℕ))

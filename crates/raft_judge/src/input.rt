@@ -1,9 +1,10 @@
 //! The lines of an input.
 ghost use Rattle.std.specs.Prelude.{◌≡◌, [], ◌∷◌, ℕ, List, IfOk, IsTrue, Some, option_map, true};
-ghost use Rattle.raft_judge.specs.Inner.Reading.{TakesLine};
-ghost use Rattle.raft_judge.specs.Input.{lines, lines_left};
+ghost use Rattle.raft_lines.specs.Lines.{lines};
+ghost use Rattle.raft_judge.specs.Input.{lines_left};
 
 use crate::fault::Fault;
+use raft_lines::read_line;
 use std::alloc::{AllocError, Global};
 use std::io::{self, BufRead};
 
@@ -120,15 +121,4 @@ impl<B> Lines<B> {
             None => "standard input",
         }
     }
-}
-
-/// Reads a line without its line feed. Returns whether it is the last one.
-fn read_line<B: BufRead>(input: &mut B, line: &mut Vec<u8>) -> io::Result<bool>
-    ensures { IfOk result (λ is_last.
-        TakesLine (B.remaining input.old) line.new.items is_last (B.remaining input.new)) }
-{
-    line.clear();
-    input.read_until(b'\n', line)?;
-    // Only the last line has no line feed. An empty one says nothing.
-    Ok(line.pop_if(|byte| *byte == b'\n').is_none())
 }

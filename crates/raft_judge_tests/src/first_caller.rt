@@ -1,6 +1,6 @@
 //! The first caller, as it is printed on the page for callers. The tests judge their runs by it.
 ghost use Rattle.std.specs.Prelude.{◌≡◌, IfOk};
-ghost use Rattle.raft_judge.specs.Input.{lines};
+ghost use Rattle.raft_lines.specs.Lines.{lines};
 ghost use Rattle.raft_judge.specs.Numbers.{number_tests};
 ghost use Rattle.raft_judge.specs.Run.{SafeRun};
 

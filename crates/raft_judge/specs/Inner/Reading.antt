@@ -1,18 +1,10 @@
--- How a line is read from an input, and in parts.
-use Rattle.std.specs.Prelude.{◌≡◌, ◌+◌, ℕ, Bool, true, false, List, [], ◌∷◌, Option, Some, None, codes, length, ⊤}
+-- How a line is read in parts.
+use Rattle.std.specs.Prelude.{◌≡◌, ◌+◌, ℕ, List, Some, codes, length}
 use Rattle.serde_json.specs.Data.{Data}
 use Rattle.raft_safety.specs.Log.{Entry}
 use Rattle.raft_safety.specs.Trace.{TraceEvent, Appended}
 use Rattle.raft_judge.specs.Fields.{IsId, IsLen, IsNamed, number_in}
-use Rattle.raft_judge.specs.Input.{lines}
 use Rattle.raft_judge.specs.Names.{Numbering}
-
--- a text loses its first line, with its line feed; the last line has none
-abbrev pub TakesLine : Option (List ℕ) → List ℕ → Bool → Option (List ℕ) → Type 0
-TakesLine None line is_last rest = ⊤
-TakesLine (Some text) line is_last None = ⊥
-TakesLine (Some text) line true (Some rest) = (lines text ≡ line ∷ []) × (rest ≡ [])
-TakesLine (Some text) line false (Some rest) = lines text ≡ line ∷ lines rest
 
 -- a server takes entries of the leader of a term, and has so many then: those that it keeps, and those
 -- that are sent

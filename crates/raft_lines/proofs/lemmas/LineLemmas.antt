@@ -31,8 +31,7 @@ use Rattle.std.proofs.lemmas.Bool.{eqb-true}
 use Rattle.std.proofs.lemmas.List.{same_from_push}
 use Rattle.std.proofs.lemmas.List.Elements.{All-cons, All-pop}
 use Rattle.std.proofs.lemmas.List.Splits.{slice_split_at, slice_split_none}
-use Rattle.raft_judge.specs.Inner.Reading.{TakesLine}
-use Rattle.raft_judge.specs.Input.{lines}
+use Rattle.raft_lines.specs.Lines.{TakesLine, lines}
 
 -- no line feed
 abbrev Plain : List ℕ → Type 0
