@@ -1,6 +1,6 @@
--- The lines of an input.
-use Rattle.std.specs.Prelude.{◌≡◌, ◌==◌, ℕ, Bool, true, false, List, [], ◌∷◌, Option, Some, None, ⊤}
-use Rattle.std.specs.List.{list_any, slice_split}
+-- What is read of an input, and written.
+use Rattle.std.specs.Prelude.{◌==◌, ℕ, Bool, List, Option}
+use Rattle.std.specs.List.{list_any}
 use Rattle.std.specs.Io.Buffered.{reader_remaining}
 use Rattle.std.specs.Io.KnownBytes.{Consumes, append_known}
 use Rattle.raft_script.specs.declared.script.dialogue.Dialogue.{Dialogue}
@@ -16,17 +16,6 @@ contents written dialogue = append_known written dialogue.replies.items
 -- whether a line ends in these bytes
 abbrev pub has_line_feed : List ℕ → Bool
 has_line_feed text = list_any (λ byte. byte == 10) text
-
--- the lines of a text: the parts between its line feeds
-abbrev pub lines : List ℕ → List (List ℕ)
-lines text = slice_split (λ byte. byte == 10) text
-
--- a text loses its first line, with its line feed; the last line has none
-abbrev pub TakesLine : Option (List ℕ) → List ℕ → Bool → Option (List ℕ) → Type 0
-TakesLine None line is_last rest = ⊤
-TakesLine (Some text) line is_last None = ⊥
-TakesLine (Some text) line true (Some rest) = (lines text ≡ line ∷ []) × (rest ≡ [])
-TakesLine (Some text) line false (Some rest) = lines text ≡ line ∷ lines rest
 
 -- a text may lose some bytes at its beginning
 abbrev pub TakesPart : Option (List ℕ) → Option (List ℕ) → Type 0

@@ -1,11 +1,13 @@
 //! The input and the output of a program that may be used interactively.
 ghost use Rattle.std.specs.Prelude.{◌≡◌, ◌⊎◌, [], false, IfOk, OnErr, OnOk};
 ghost use Rattle.std.specs.Io.Buffered.{reader_buffer};
-ghost use Rattle.std.specs.Io.KnownBytes.{Consumes, Keeps, append_known};
-ghost use Rattle.raft_script.specs.Input.{TakesLine, TakesPart, contents, has_line_feed, unread};
+ghost use Rattle.std.specs.Io.KnownBytes.{Keeps, append_known};
+ghost use Rattle.raft_lines.specs.Lines.{TakesLine};
+ghost use Rattle.raft_script.specs.Input.{TakesPart, contents, has_line_feed, unread};
 
+use raft_lines::read_line;
 use std::alloc::Global;
-use std::io::{self, BufRead, BufReader, ErrorKind, Read, Write};
+use std::io::{self, BufReader, ErrorKind, Read, Write};
 
 /// The capacity of the buffers for input that is read ahead, and for replies that are not yet
 /// written.
@@ -83,17 +85,4 @@ pub fn write_out<W: Write>(bytes: &mut Vec<u8>, writer: &mut W) -> io::Result<()
         }
     }
     Err(io::Error::from(ErrorKind::Interrupted))
-}
-
-/// Reads a line without its line feed. Returns whether it is the last one.
-fn read_line<B: BufRead>(input: &mut B, line: &mut Vec<u8>) -> io::Result<bool>
-    ensures line { IfOk result (λ is_last.
-        TakesLine (B.remaining input.old) line.new.items is_last (B.remaining input.new)) }
-    ensures none_lost { OnErr result
-        (Consumes (B.remaining input.old) (B.remaining input.new) line.new.items) }
-{
-    line.clear();
-    input.read_until(b'\n', line)?;
-    // Only the last line has no line feed. An empty one says nothing.
-    Ok(line.pop_if(|byte| *byte == b'\n').is_none())
 }
