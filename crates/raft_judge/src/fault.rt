@@ -19,7 +19,7 @@ pub enum Fault {
 }
 
 impl Fault {
-    ghost use Rattle.std.specs.Prelude.{IsTrue};
+    ghost use Rattle.std.specs.Prelude.{◌<◌, IsTrue};
     ghost use Rattle.raft_judge.specs.Inner.Taken.{IsBroken};
 
     /// Whether the line breaks a rule, or has not the next index of its leader.
@@ -37,6 +37,17 @@ impl Fault {
             self,
             Fault::Refused(Violation::Rule(Rule::UnknownConfig | Rule::NoQuorum))
         )
+    }
+
+    /// Returns the exit status for a run that is judged no further because of it.
+    pub fn status(&self) -> u8
+        ensures { 0 < result }
+    {
+        match self {
+            Fault::Skips(_) | Fault::Refused(Violation::Rule(_)) => 1,
+            Fault::Malformed => 2,
+            Fault::Refused(Violation::OutOfMemory) => 3,
+        }
     }
 }
 

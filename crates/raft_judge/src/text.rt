@@ -18,14 +18,10 @@ pub fn push_safe(alloc: Global, answer: &mut String, judge: &Judge) -> Result<()
     let changes = held.len() as u64;
     answer.push_str("safe: ")?;
     push_count(answer, counts.events, "event", "events")?;
-    answer.push_str(", ")?;
-    push_count(answer, servers, "server", "servers")?;
-    answer.push_str(", ")?;
-    push_count(answer, terms, "term with a leader", "terms with a leader")?;
-    answer.push_str(", ")?;
-    push_count(answer, counts.committed as u64, "committed", "committed")?;
-    answer.push_str(", ")?;
-    push_count(answer, changes, "membership change", "membership changes")?;
+    push_next(answer, servers, "server", "servers")?;
+    push_next(answer, terms, "term with a leader", "terms with a leader")?;
+    push_next(answer, counts.committed as u64, "committed", "committed")?;
+    push_next(answer, changes, "membership change", "membership changes")?;
     push_more(answer, counts.left_out, "vote left out", "votes left out")?;
     push_more(
         answer,
@@ -45,15 +41,19 @@ pub fn push_safe(alloc: Global, answer: &mut String, judge: &Judge) -> Result<()
         "append inferred",
         "appends inferred",
     )?;
-    writeln!(answer, "")?;
-    Ok(())
+    answer.push('\n')
 }
 
-/// Writes how many things were left out or filled in, if any were.
+/// Writes a comma and how many things were left out or filled in, if any were.
 fn push_more(answer: &mut String, count: u64, one: &str, many: &str) -> Result<(), AllocError> {
     if count == 0 {
         return Ok(());
     }
+    push_next(answer, count, one, many)
+}
+
+/// Writes a comma and how many things there are.
+fn push_next(answer: &mut String, count: u64, one: &str, many: &str) -> Result<(), AllocError> {
     answer.push_str(", ")?;
     push_count(answer, count, one, many)
 }
@@ -61,8 +61,8 @@ fn push_more(answer: &mut String, count: u64, one: &str, many: &str) -> Result<(
 /// Writes how many things there are, by the word for one or for many.
 fn push_count(answer: &mut String, count: u64, one: &str, many: &str) -> Result<(), AllocError> {
     push_number(answer, count)?;
-    write!(answer, " {}", if count == 1 { one } else { many })?;
-    Ok(())
+    answer.push(' ')?;
+    answer.push_str(if count == 1 { one } else { many })
 }
 
 /// Writes a number with commas between thousands.
@@ -86,26 +86,34 @@ pub fn push_fault(
 ) -> Result<u8, AllocError>
     ensures { IfOk result (λ status. 0 < status) }
 {
+    // If there is no memory, the line is not read again.
+    let value = match fault {
+        Fault::Refused(Violation::OutOfMemory) => Value::Null,
+        _ => value_or_null(alloc, line)?,
+    };
+    push_reason(alloc, answer, &value, is_first, fault)?;
+    Ok(fault.status())
+}
+
+/// Writes why the value of a line is not taken.
+fn push_reason(
+    alloc: Global,
+    answer: &mut String,
+    value: &Value,
+    is_first: bool,
+    fault: Fault,
+) -> Result<(), AllocError> {
     match fault {
-        // There may be no memory to read the line again.
-        Fault::Refused(Violation::OutOfMemory) => {
-            writeln!(answer, "out of memory")?;
-            Ok(3)
-        }
+        Fault::Refused(Violation::OutOfMemory) => answer.push_str("out of memory\n"),
         Fault::Malformed => {
-            let value = value_or_null(alloc, line)?;
-            writeln!(answer, "{}", reason(is_first, &value))?;
-            Ok(2)
+            answer.push_str(reason(is_first, value))?;
+            answer.push('\n')
         }
-        Fault::Skips(last) => {
-            push_skip(alloc, answer, &value_or_null(alloc, line)?, last)?;
-            Ok(1)
-        }
+        Fault::Skips(last) => push_skip(alloc, answer, value, last),
         Fault::Refused(Violation::Rule(rule)) => {
-            let value = value_or_null(alloc, line)?;
-            push_words(alloc, answer, &value, event_words(&value))?;
+            push_words(alloc, answer, value, event_words(value))?;
             writeln!(answer, ": {rule}")?;
-            Ok(1)
+            Ok(())
         }
     }
 }
