@@ -122,10 +122,16 @@ impl Chart {
     /// Adds a column for each voter of a config, which have these names.
     fn add_config(&mut self, config: &[u64], names: &[Value]) -> Result<(), AllocError> {
         for (id, name) in config.iter().zip(names) {
-            self.name.clear();
-            push_name(self.alloc, &mut self.name, name)?;
-            self.place_of(*id)?;
+            self.add_voter(*id, name)?;
         }
+        Ok(())
+    }
+
+    /// Adds a column for a voter, which has this name.
+    fn add_voter(&mut self, id: u64, name: &Value) -> Result<(), AllocError> {
+        self.name.clear();
+        push_name(self.alloc, &mut self.name, name)?;
+        self.place_of(id)?;
         Ok(())
     }
 
@@ -296,23 +302,26 @@ impl Chart {
     fn letters_of(&self, entries: &[Entry<u64, u64>]) -> Result<Vec<u8>, AllocError> {
         let mut letters = Vec::new(self.alloc);
         for entry in entries {
-            letters.push(self.letters.get(&entry.term).copied().unwrap_or(b'?'))?;
+            letters.push(self.letter_of(entry.term))?;
         }
         Ok(letters)
+    }
+
+    /// Returns the letter of the entries of a term.
+    fn letter_of(&self, term: u64) -> u8 {
+        self.letters.get(&term).copied().unwrap_or(b'?')
     }
 
     /// Returns the place of the column of a server, which gets one if fewer than seven have one.
     /// What happens begins with the name of the server.
     fn place_of(&mut self, id: u64) -> Result<usize, AllocError> {
         self.words.clear();
-        for (place, column) in self.servers.iter().enumerate() {
-            if column.id == id {
-                self.words.push_str(column.name.as_str())?;
-                return Ok(place);
-            }
+        let place = self.known_place(id);
+        if let Some(column) = self.servers.get(place) {
+            self.words.push_str(column.name.as_str())?;
+            return Ok(place);
         }
         self.words.push_str(self.name.as_str())?;
-        let place = self.servers.len();
         if place < SERVERS {
             self.servers.push(Column {
                 id,
@@ -326,6 +335,16 @@ impl Chart {
             self.has_more = true;
         }
         Ok(place)
+    }
+
+    /// Returns the place of the column of a server, the number of columns if it has none.
+    fn known_place(&self, id: u64) -> usize {
+        for (place, column) in self.servers.iter().enumerate() {
+            if column.id == id {
+                return place;
+            }
+        }
+        self.servers.len()
     }
 
     /// Draws a row.
@@ -347,7 +366,7 @@ impl Chart {
         self.headed = self.servers.len();
         self.rows.push_str("\nnumber  ")?;
         for column in &self.servers {
-            write!(self.rows, "{:<12}", column.name.as_str())?;
+            column.draw_name(&mut self.rows)?;
         }
         self.rows.push_str("what happens\n")
     }

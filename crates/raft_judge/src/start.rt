@@ -1,11 +1,14 @@
 //! The line that says how the cluster starts.
-ghost use Rattle.std.specs.Prelude.{IfOk, IfSome, IsTrue, OnOk};
+ghost use Rattle.std.specs.Prelude.{IfOk, IfSome, IsTrue, OnOk, codes};
+ghost use Rattle.serde_json.specs.View.{view};
+ghost use Rattle.raft_judge.specs.Fields.{HasConfigs, IsCounting, IsFirst, IsNamed};
 ghost use Rattle.raft_judge.specs.Inner.Table.{Learns, numbering};
 ghost use Rattle.raft_judge.specs.Run.{SayOneStart, SaysStart};
 
 use crate::field::{configs, configs_count, first_index, is_named, value_of};
 use crate::names::Names;
 use raft_safety::checker::ConfigsCount;
+use serde_json::Value;
 use std::alloc::{AllocError, Global};
 
 /// The configs of the voters, the index of the first entry, and when configs count.
@@ -17,20 +20,30 @@ pub fn start_of(alloc: Global, names: &mut Names, line: &[u8]) -> Result<Option<
         SaysStart (numbering names.new) line.now s.0.items s.1 s.2)) }
     ensures learns { OnOk result (Learns names.old names.new) }
 {
-    let Some(value) = value_of(alloc, line)? else {
-        return Ok(None);
-    };
-    if !is_named(&value, "started") {
+    match value_of(alloc, line)? {
+        Some(value) => start_in(alloc, names, &value),
+        None => Ok(None),
+    }
+}
+
+/// Returns how the cluster starts, if the value of a line says so. The voters get numbers.
+fn start_in(alloc: Global, names: &mut Names, value: &Value) -> Result<Option<Start>, AllocError>
+    ensures says { IfOk result (λ o. IfSome o (λ s. IsNamed (codes "started") (view value.now)
+        × HasConfigs (numbering names.new) (view value.now) s.0.items
+        × IsFirst s.1 (view value.now) × IsCounting s.2 (view value.now))) }
+    ensures learns { OnOk result (Learns names.old names.new) }
+{
+    if !is_named(value, "started") {
         return Ok(None);
     }
-    let Some(first) = first_index(&value) else {
+    let Some(first) = first_index(value) else {
         return Ok(None);
     };
-    let Some(counting) = configs_count(&value) else {
+    let Some(counting) = configs_count(value) else {
         return Ok(None);
     };
-    names.learn(&value)?;
-    match configs(alloc, names, &value)? {
+    names.learn(value)?;
+    match configs(alloc, names, value)? {
         Some(voters) => Ok(Some((voters, first, counting))),
         None => Ok(None),
     }

@@ -40,6 +40,12 @@ impl Column {
         Ok(dropped)
     }
 
+    /// Draws the name at the head of the column.
+    pub fn draw_name(&self, chart: &mut String) -> Result<(), AllocError> {
+        write!(chart, "{:<12}", self.name.as_str())?;
+        Ok(())
+    }
+
     /// Draws the role, the term, and the part of the log after so many entries, with a bar after
     /// what the server knows to be committed.
     pub fn draw(&self, first: usize, chart: &mut String) -> Result<(), AllocError> {
