@@ -1,8 +1,6 @@
 //! Answers to runs of which the first line says when configs count.
 
-use crate::first_caller::judged;
-use std::alloc::{AllocError, Global};
-use std::test::Fail;
+use crate::rows::Row;
 
 /// The first line of a cluster whose configs count once they are applied.
 const APPLIED: &str = r#"{"event":"started","voters":[[1,2,3]],"configs":"applied"}
@@ -54,8 +52,8 @@ const COMMITTED_2: &str = r#"{"event":"committed","leader":1,"term":1,"index":2}
 const COMMITTED_3: &str = r#"{"event":"committed","leader":1,"term":1,"index":3}
 "#;
 
-/// Parts of runs, and the status and the answer.
-const ROWS: [(&[&str], u8, &str); 10] = [
+/// Runs whose first line says when configs count.
+pub const ROWS: [Row; 10] = [
     // A leader commits a config by the one before.
     (
         &[APPLIED, WRITTEN, COMMITTED_1],
@@ -145,29 +143,3 @@ const ROWS: [(&[&str], u8, &str); 10] = [
             none, and `configs`, if it is there, as `appended` or `applied`\n",
     ),
 ];
-
-/// Whether this is the status and the answer to a run of these parts.
-fn is_answered(
-    alloc: Global,
-    parts: &[&str],
-    status: u8,
-    answer: &str,
-) -> Result<bool, AllocError> {
-    let mut text = String::new(alloc);
-    for part in parts {
-        text.push_str(part)?;
-    }
-    let (given, said) = judged(alloc, text.as_str())?;
-    Ok(given == status && said.as_str() == answer)
-}
-
-#[test]
-fn answers_to_each_way_in_which_configs_count(rt: HostRuntime) -> Result<(), Fail> {
-    for (parts, status, answer) in &ROWS {
-        assert!(rt;
-            is_answered(rt.alloc(), parts, *status, answer)?,
-            "{answer}"
-        );
-    }
-    Ok(())
-}

@@ -1,11 +1,10 @@
 //! The tests of `raft_judge`, through its public calls alone. It ships nothing.
 //!
-//! `first_caller` judges a run. Each other file has runs as rows, with the answers to them:
-//! `answers` those of one list of lines and of several, `fills` those in which the judge fills in
-//! events, `applied` those whose first line says when configs count, `names` those whose servers
-//! and contents are texts, `bounds` those with fields and names at their bounds, `contradicted`
-//! those whose answer names the lines that a refused line contradicts, and `chart` those of which a
-//! chart is drawn.
+//! `first_caller` judges a run. `rows` compares runs with their answers: `answers` has runs of one list
+//! of lines, and of several, `fills` those in which the judge fills in events, `applied` those whose
+//! first line says when configs count, `names` those whose servers and contents are texts, `bounds`
+//! those with fields and names at their bounds, and `contradicted` those whose answer names the lines
+//! that a refused line contradicts. `chart` has runs of which a chart is drawn.
 #![tactic(auto)]
 
 #[cfg(test)]
@@ -23,3 +22,5 @@ mod fills;
 pub mod first_caller;
 #[cfg(test)]
 mod names;
+#[cfg(test)]
+mod rows;
