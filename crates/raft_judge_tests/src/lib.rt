@@ -19,7 +19,8 @@ mod chart;
 mod contradicted;
 #[cfg(test)]
 mod fills;
-pub mod first_caller;
+#[cfg(test)]
+mod first_caller;
 #[cfg(test)]
 mod names;
 #[cfg(test)]
