@@ -26,21 +26,21 @@ BEGIN, END = "<!-- tools/gate_time.py writes from here -->", "<!-- to here -->"
 # What proof, tests and mutants of a crate may take together, in seconds of processor time of the machine
 # whose run is in the page.
 BUDGETS = {
-    "raft_base": 520,
-    "raft_members": 2740,
-    "raft_progress": 4140,
-    "raft_state": 4000,
-    "raft_handlers": 2200,
-    "raft_safety": 650,
-    "raft_lines": 60,
-    "raft_judge": 1380,
-    "raft_refinement": 540,
-    "raft_script": 680,
-    "raft_trace": 240,
-    "cluster": 830,
-    "raft_testing": 200,
+    "raft_base": 390,
+    "raft_members": 2430,
+    "raft_progress": 3410,
+    "raft_state": 2950,
+    "raft_handlers": 2510,
+    "raft_safety": 720,
+    "raft_lines": 20,
+    "raft_judge": 720,
+    "raft_refinement": 600,
+    "raft_script": 610,
+    "raft_trace": 140,
+    "cluster": 920,
+    "raft_testing": 120,
     "first_example": 70,
-    "three_nodes": 360,
+    "three_nodes": 330,
 }
 
 
