@@ -1,7 +1,7 @@
 //! The line that says how the cluster starts.
-ghost use Rattle.std.specs.Prelude.{IfOk, IfSome, IsTrue, OnOk, codes};
+ghost use Rattle.std.specs.Prelude.{◌≡◌, ℕ, List, IfOk, IfSome, IsTrue, OnOk, Some};
+ghost use Rattle.serde_json.specs.Read.{read};
 ghost use Rattle.serde_json.specs.View.{view};
-ghost use Rattle.raft_judge.specs.Fields.{HasConfigs, IsCounting, IsFirst, IsNamed};
 ghost use Rattle.raft_judge.specs.Inner.Table.{Learns, numbering};
 ghost use Rattle.raft_judge.specs.Run.{SayOneStart, SaysStart};
 
@@ -28,9 +28,9 @@ pub fn start_of(alloc: Global, names: &mut Names, line: &[u8]) -> Result<Option<
 
 /// Returns how the cluster starts, if the value of a line says so. The voters get numbers.
 fn start_in(alloc: Global, names: &mut Names, value: &Value) -> Result<Option<Start>, AllocError>
-    ensures says { IfOk result (λ o. IfSome o (λ s. IsNamed (codes "started") (view value.now)
-        × HasConfigs (numbering names.new) (view value.now) s.0.items
-        × IsFirst s.1 (view value.now) × IsCounting s.2 (view value.now))) }
+    ensures says { IfOk result (λ o. IfSome o (λ s. (line : List ℕ) →
+        read line ≡ Some (view value.now) →
+        SaysStart (numbering names.new) line s.0.items s.1 s.2)) }
     ensures learns { OnOk result (Learns names.old names.new) }
 {
     if !is_named(value, "started") {
