@@ -11,16 +11,7 @@ use Rattle.raft_members.specs.quorum.Majority.{is_voter_of}
 use Rattle.raft_members.specs.quorum.Coherence.{next_configs}
 use Rattle.raft_members.specs.membership.Members.{Members}
 use Rattle.raft_members.specs.declared.change_members.ChangeMembers.{ChangeMembers}
-use Rattle.raft_members.specs.declared.change_members.ChangeMembers.TheVariants.{
-  AddVoterIds,
-  AddVoters,
-  RemoveVoters,
-  ReplaceAllVoters,
-  AddNodes,
-  SetNodes,
-  RemoveNodes,
-  ReplaceAllNodes,
-}
+use Rattle.raft_members.specs.declared.change_members.ChangeMembers.TheVariants.{AddVoterIds, AddVoters, RemoveVoters, ReplaceAllVoters, AddNodes, SetNodes, RemoveNodes, ReplaceAllNodes}
 
 -- the last config, and the empty one if there is none
 abbrev pub last_config : {K : Type 0} → List (List K) → List K

@@ -2,16 +2,7 @@
 use Rattle.std.specs.Prelude.{◌≡◌, Bool, List, [], IsTrue}
 use Rattle.raft_members.specs.membership.Members.{same_nodes}
 use Rattle.raft_members.specs.declared.change_members.ChangeMembers.{ChangeMembers}
-use Rattle.raft_members.specs.declared.change_members.ChangeMembers.TheVariants.{
-  AddVoterIds,
-  AddVoters,
-  RemoveVoters,
-  ReplaceAllVoters,
-  AddNodes,
-  SetNodes,
-  RemoveNodes,
-  ReplaceAllNodes,
-}
+use Rattle.raft_members.specs.declared.change_members.ChangeMembers.TheVariants.{AddVoterIds, AddVoters, RemoveVoters, ReplaceAllVoters, AddNodes, SetNodes, RemoveNodes, ReplaceAllNodes}
 
 -- the kind of a change
 pub data Kind : Type 0 where

@@ -1,27 +1,6 @@
 -- What holds of a membership holds of one with the same contents.
 use Rattle.std.proofs.lemmas.Bool.{or_right}
-use Rattle.std.specs.Prelude.{
-  ◌≡◌,
-  Bool,
-  true,
-  false,
-  not,
-  cond,
-  ◌||◌,
-  Option,
-  Some,
-  None,
-  List,
-  IsTrue,
-  is_some,
-  refl,
-  length,
-  ◌<◌,
-  Result,
-  Ok,
-  Err,
-  IfOk,
-}
+use Rattle.std.specs.Prelude.{◌≡◌, Bool, true, false, not, cond, ◌||◌, Option, Some, None, List, IsTrue, is_some, refl, length, ◌<◌, Result, Ok, Err, IfOk}
 use Rattle.std.proofs.Common.{sym, ◌∙◌, ap, subst}
 use Rattle.std.specs.declared.cmp.Ordering.{Ordering}
 use Rattle.std.specs.Cmp.{IsEquivalence}
@@ -45,16 +24,7 @@ use Rattle.raft_members.specs.membership.Refusal.{IsRefusal}
 use Rattle.raft_members.specs.membership.Valid.{has_empty_config, FirstWithoutNode, FirstUnknown}
 use Rattle.raft_members.specs.membership.Change.{changed, next_members, with_nodes, union_of, last_config, keeps_node}
 use Rattle.raft_members.specs.declared.change_members.ChangeMembers.{ChangeMembers}
-use Rattle.raft_members.specs.declared.change_members.ChangeMembers.TheVariants.{
-  AddVoterIds,
-  AddVoters,
-  RemoveVoters,
-  ReplaceAllVoters,
-  AddNodes,
-  SetNodes,
-  RemoveNodes,
-  ReplaceAllNodes,
-}
+use Rattle.raft_members.specs.declared.change_members.ChangeMembers.TheVariants.{AddVoterIds, AddVoters, RemoveVoters, ReplaceAllVoters, AddNodes, SetNodes, RemoveNodes, ReplaceAllNodes}
 use Rattle.raft_members.specs.declared.error.ChangeMembershipErrorOf.{ChangeMembershipErrorOf}
 use Rattle.raft_members.specs.declared.error.ChangeMembershipErrorOf.TheVariants.{InProgress, EmptyMembership, LearnerNotFound, OutOfMemory}
 

@@ -21,13 +21,7 @@ use Rattle.raft_members.specs.quorum.AtLeast.{IsAlike, ids_of, need_of}
 use Rattle.raft_members.specs.quorum.Majority.{has_at_least}
 use Rattle.raft_members.specs.declared.quorum.at_least.AtLeast.{AtLeast}
 use Rattle.raft_members.specs.quorum.Meeting.{AtLeastQuorumsMeet, NeedPastIdsHasNoQuorum, RespectsEquality, ShareMember}
-use Rattle.raft_members.proofs.lemmas.quorum.MajorityLemmas.{
-  IsDistinct-filter,
-  IsDistinct-unique_keys,
-  count_by-is_member,
-  flipped,
-  is_member-unique_keys,
-}
+use Rattle.raft_members.proofs.lemmas.quorum.MajorityLemmas.{IsDistinct-filter, IsDistinct-unique_keys, count_by-is_member, flipped, is_member-unique_keys}
 use Rattle.raft_members.proofs.lemmas.quorum.MeetingLemmas.{shared}
 
 -- comparing a count with one less

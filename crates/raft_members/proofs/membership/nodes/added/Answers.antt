@@ -2,15 +2,7 @@ use Rattle.std.proofs.Common.{List, ◌∷◌, Option, IsTrue, sym, ◌∙◌, a
 use Rattle.std.specs.Map.{lookup}
 use Rattle.std.specs.BTreeMap.{get, is_at}
 use Rattle.std.specs.Option.{option_eq, option_or}
-use Rattle.raft_members.proofs.lemmas.membership.AddedLemmas.{
-  option_alike,
-  option_trans,
-  or_none,
-  add_there,
-  add_new,
-  either_has,
-  has_still,
-}
+use Rattle.raft_members.proofs.lemmas.membership.AddedLemmas.{option_alike, option_trans, or_none, add_there, add_new, either_has, has_still}
 use Rattle.raft_members.proofs.membership.nodes.added.Goals as goal
 
 pub returns-clause-nodes : goal.returns-clause-nodes

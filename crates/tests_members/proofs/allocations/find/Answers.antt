@@ -1,0 +1,7 @@
+use Rattle.std.proofs.Common.{◌≡◌, nat_eq}
+use Rattle.raft_members.proofs.CallerLemmas.{list_clones}
+use Rattle.tests_members.proofs.lemmas.NumberLemmas.{same}
+use Rattle.tests_members.proofs.allocations.find.Goals as goal
+
+pub find_coherent-requires : goal.find_coherent-requires
+find_coherent-requires c x y h = list_clones nat_eq (λ a b. b ≡ a) same x.items y.items h.0
