@@ -1,5 +1,5 @@
 //! What a leader knows about a follower: how far their logs match, and what is in flight to it.
-ghost use Rattle.std.specs.Prelude.{◌≡◌, ◌^◌, ◌<◌, ◌≤◌, nat_le, Ok, Err, None, if◌then◌else◌, IsSome, IsTrue, OnOk, ℕ};
+ghost use Rattle.std.specs.Prelude.{◌≡◌, ◌^◌, ◌<◌, ◌≤◌, nat_le, Ok, Err, None, Some, false, true, if◌then◌else◌, is_some, IfSome, IsSome, IsTrue, OnOk, ℕ};
 ghost use Rattle.raft_base.specs.LogId.{id_le, id_lt, next_index};
 ghost use Rattle.raft_base.specs.Validate.{first_false};
 ghost use Rattle.raft_progress.specs.entry.EntryTable.{entry_after_conflict, entry_after_ack};
@@ -39,6 +39,15 @@ pub struct ProgressEntryOf<C> {
     pub inflight: InflightOf<C>,
     /// The index after the last log that may match.
     pub searching_end: u64,
+}
+
+/// The indexes that decide what is sent next: the ones after matching, after what is to be purged,
+/// and after the log.
+#[derive(Clone, Copy)]
+struct SendBounds {
+    matched: u64,
+    purged: u64,
+    logged: u64,
 }
 
 /// What a leader knows about a follower, with the default leader ids.
@@ -213,16 +222,31 @@ impl<C: Ord + Copy> ProgressEntryOf<C> {
     pub fn can_send<L: LogStateReader<C>>(&self, log: &L) -> bool
         ensures { result ≡ can_send self.now (L.log_view log.now) }
     {
-        if !self.inflight.is_none() {
-            return true;
+        !self.inflight.is_none() || self.bounds(log).is_some()
+    }
+
+    /// Returns the indexes that decide what is sent if nothing is in flight, or `None` if
+    /// `can_send` is false then.
+    // The test and the send share them, so that neither the log nor matching is read twice.
+    #[inline(always)]
+    fn bounds<L: LogStateReader<C>>(&self, log: &L) -> Option<SendBounds>
+        ensures allowed { is_idle self.now.inflight ≡ true →
+            is_some result ≡ can_send self.now (L.log_view log.now) }
+        ensures bounds { IfSome result (λ b. (b.matched ≡ next_index self.now.matching)
+            × (b.purged ≡ next_index (L.log_view log.now).purge_upto)
+            × (b.logged ≡ next_index (L.log_view log.now).last)) }
+    {
+        let matched = next_index_up_to(self.matching, self.searching_end)?;
+        let logged = next_index_up_to(log.last_log_id().copied(), u64::MAX)?;
+        let purged = next_index_up_to(log.purge_upto().copied(), u64::MAX)?;
+        if logged < self.searching_end || self.curr_inflight_id == u64::MAX {
+            return None;
         }
-        let last = log.last_log_id();
-        let purge_upto = log.purge_upto();
-        is_below_index(self.matching, self.searching_end)
-            && last.has_next_index()
-            && self.searching_end <= last.next_index()
-            && purge_upto.has_next_index()
-            && self.curr_inflight_id < u64::MAX
+        Some(SendBounds {
+            matched,
+            purged,
+            logged,
+        })
     }
 
     /// Puts in flight what is to be sent next: at most `max_entries` logs, or a snapshot. Returns
@@ -264,10 +288,37 @@ impl<C: Ord + Copy> ProgressEntryOf<C> {
         if !self.inflight.is_none() {
             return false;
         }
-        let matched = self.matching.next_index();
+        let bounds = SendBounds {
+            matched: self.matching.next_index(),
+            purged: log.purge_upto().next_index(),
+            logged: log.last_log_id().next_index(),
+        };
+        self.send_within(log, max_entries, bounds)
+    }
+
+    /// Sends by these bounds. Returns whether something was sent, or at least a request id was
+    /// taken.
+    #[inline(always)]
+    fn send_within<L: LogStateReader<C>>(
+        &mut self,
+        log: &L,
+        max_entries: u64,
+        bounds: SendBounds,
+    ) -> bool
+        requires idle { IsTrue (is_idle self.old.inflight) }
+        requires allowed { IsTrue (can_send self.old (L.log_view log.now)) }
+        requires matched { bounds.matched ≡ next_index self.old.matching }
+        requires purged { bounds.purged ≡ next_index (L.log_view log.now).purge_upto }
+        requires logged { bounds.logged ≡ next_index (L.log_view log.now).last }
+        ensures { send_table C.cmp self.old (L.log_view log.now) max_entries
+            ≡ (if result then Ok self.new else Err self.new) }
+    {
+        let SendBounds {
+            matched,
+            purged,
+            logged,
+        } = bounds;
         let end = self.searching_end;
-        let purged = log.purge_upto().next_index();
-        let logged = log.last_log_id().next_index();
         let id = self.curr_inflight_id + 1;
         let start = calc_mid(matched, end).max(purged);
         let until = start.saturating_add(max_entries).min(logged);
@@ -299,10 +350,15 @@ impl<C: Ord + Copy> ProgressEntryOf<C> {
         ensures { FollowsRequest (after_request C.cmp self.old (L.log_view log.now) max_entries)
             self.old result self.new }
     {
-        if !self.can_send(log) || !self.send(log, max_entries) {
+        if !self.inflight.is_none() {
             return InflightOf::None;
         }
-        self.inflight
+        if let Some(bounds) = self.bounds(log) {
+            if self.send_within(log, max_entries, bounds) {
+                return self.inflight;
+            }
+        }
+        InflightOf::None
     }
 
     /// Whether the precondition of `sending_start` holds: the index after matching is at most the
@@ -335,6 +391,18 @@ fn calc_mid(matched: u64, end: u64) -> u64
     ensures within { result ≤ end }
 {
     matched + (end - matched) / 16 * 8
+}
+
+/// Returns the index after a log id, and 0 for `None`, if that is at most `end`.
+#[inline(always)]
+fn next_index_up_to<C: Copy>(id: Option<LogIdOf<C>>, end: u64) -> Option<u64>
+    ensures { result ≡ (if nat_le (next_index id) end then Some (next_index id) else None) }
+{
+    match id {
+        None => Some(0),
+        Some(id) if id.index < end => Some(id.index + 1),
+        Some(_) => None,
+    }
 }
 
 /// Whether a log id is absent or has an index below `end`.

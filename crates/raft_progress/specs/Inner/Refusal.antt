@@ -2,13 +2,7 @@
 use Rattle.std.specs.Prelude.{Bool, List, None, Option, Some}
 use Rattle.std.specs.declared.cmp.Ordering.{Ordering}
 use Rattle.raft_members.specs.declared.error.ChangeMembershipErrorOf.{ChangeMembershipErrorOf}
-use Rattle.raft_members.specs.declared.error.ChangeMembershipErrorOf.TheVariants.{
-  InProgress,
-  EmptyMembership,
-  LearnerNotFound,
-  OutOfMemory
-      as WantOfMemory,
-}
+use Rattle.raft_members.specs.declared.error.ChangeMembershipErrorOf.TheVariants.{InProgress, EmptyMembership, LearnerNotFound, OutOfMemory as WantOfMemory}
 use Rattle.raft_progress.specs.progress.NewProgress.{LearnersFit}
 use Rattle.raft_progress.specs.progress.Upgrade.{IsLeastBelow}
 use Rattle.raft_progress.specs.declared.progress.steps.Reply.{Reply}

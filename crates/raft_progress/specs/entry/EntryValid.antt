@@ -3,13 +3,7 @@ use Rattle.std.specs.Prelude.{Bool, nat_le, List, [], ◌∷◌}
 use Rattle.std.specs.declared.cmp.Ordering.{Ordering}
 use Rattle.raft_base.specs.LogId.{id_le, id_lt, next_index}
 use Rattle.raft_base.specs.declared.log_id.validate.Invalid.{Invalid}
-use Rattle.raft_base.specs.declared.log_id.validate.Invalid.TheVariants.{
-  MatchingPastEnd,
-  RangeOrder,
-  MatchingPastPrev,
-  PrevPastEnd,
-  SnapshotNotPastMatching,
-}
+use Rattle.raft_base.specs.declared.log_id.validate.Invalid.TheVariants.{MatchingPastEnd, RangeOrder, MatchingPastPrev, PrevPastEnd, SnapshotNotPastMatching}
 use Rattle.raft_progress.specs.declared.entry.ProgressEntryOf.{ProgressEntryOf}
 use Rattle.raft_progress.specs.declared.inflight.InflightOf.{InflightOf}
 use Rattle.raft_progress.specs.declared.inflight.InflightOf.TheVariants.{None as Idle, Logs, Snapshot}

@@ -8,13 +8,7 @@ use Rattle.raft_base.specs.declared.log_id.LogIdOf.{LogIdOf}
 use Rattle.raft_base.specs.declared.log_id.log_id_range.LogIdRangeOf.{LogIdRangeOf}
 use Rattle.raft_progress.specs.inflight.Inflight.{logs_from}
 use Rattle.raft_progress.specs.declared.inflight.InflightError.{InflightError}
-use Rattle.raft_progress.specs.declared.inflight.InflightError.TheVariants.{
-  InvalidRequestId,
-  AckOutOfRange,
-  SnapshotAckRegress,
-  ConflictNotAtPrev,
-  ConflictOnSnapshot,
-}
+use Rattle.raft_progress.specs.declared.inflight.InflightError.TheVariants.{InvalidRequestId, AckOutOfRange, SnapshotAckRegress, ConflictNotAtPrev, ConflictOnSnapshot}
 use Rattle.raft_progress.specs.declared.inflight.InflightOf.{InflightOf}
 use Rattle.raft_progress.specs.declared.inflight.InflightOf.TheVariants.{None as Idle, Logs, Snapshot}
 

@@ -11,14 +11,7 @@ use Rattle.raft_progress.specs.progress.Upgrade.{CanUpgrade, IsLeastBelow, IsUpg
 use Rattle.raft_progress.specs.declared.progress.steps.AnyStep.{AnyStep}
 use Rattle.raft_progress.specs.declared.progress.steps.AnyStep.TheVariants.{Update, IncreaseTo, Upgrade}
 use Rattle.raft_progress.specs.declared.progress.steps.Reply.{Reply}
-use Rattle.raft_progress.specs.declared.progress.steps.Reply.TheVariants.{
-  Granted,
-  Unknown,
-  WouldFall,
-  BelowDefault,
-  BadLearners,
-  OutOfMemory,
-}
+use Rattle.raft_progress.specs.declared.progress.steps.Reply.TheVariants.{Granted, Unknown, WouldFall, BelowDefault, BadLearners, OutOfMemory}
 
 -- whether a value's part is below the part of the present value
 abbrev pub falls : {V P : Type 0} → (P → P → Ordering) → (V → P) → Option V → V → Bool

@@ -23,13 +23,20 @@ impl<C: Ord + Copy> ProgressEntryOf<C> {
             ≡ (if result then Some self.new else None) }
         ensures unchanged { result ≡ false → self.new ≡ self.old }
     {
-        if self.is_searched() {
+        if !self.inflight.is_none() {
+            return false;
+        }
+        let Some(bounds) = self.bounds(log) else {
+            return false;
+        };
+        if self.searching_end - bounds.matched >= SEARCHED {
             return self.search(log, max_entries);
         }
-        self.can_send(log) && self.send(log, max_entries)
+        self.send_within(log, max_entries, bounds)
     }
 
     /// Puts in flight what is to be sent next in a search, and returns whether something was.
+    #[inline(never)]
     fn search<L: LogStateReader<C>>(&mut self, log: &L, max_entries: u64) -> bool
         requires { IsTrue (is_searched self.old) }
         ensures sent { after_send C.cmp self.old (L.log_view log.now) max_entries

@@ -70,13 +70,17 @@ impl<ID: Copy + Ord> Positions<ID> {
             AreAtPositions ID.eq (keys_of entries.now) (position_in ID.eq self.now.sorted.items) }
         ensures { result ≡ position (λ e. ID.eq id.now e.0) entries.now }
     {
+        // What follows a loop that finds the id is not shared with the other searches, so the
+        // compiler does not test again whether the id was found.
+        if !self.stale && self.sorted.len() <= FEW {
+            if let Some(position) = position_of_few(&self.sorted, *id) {
+                return Some(position);
+            }
+        }
         if self.stale {
             return search(entries, id);
         }
-        if self.sorted.len() > FEW {
-            return self.find_among_many(id);
-        }
-        position_of_few(&self.sorted, *id)
+        self.find_among_many(id)
     }
 
     /// Returns the position that the list has for an id, found by halving.

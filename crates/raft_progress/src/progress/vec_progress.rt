@@ -213,6 +213,7 @@ impl<ID: Copy + Ord, V: ProgressPart<P>, P: Copy + Ord, QS: QuorumSet<ID>> Progr
         }
     }
 
+    #[inline(always)]
     fn get_mut(&mut self, id: &ID) -> Option<&mut V> {
         match self.index(id) {
             Some(position) => Some(&mut self.entries[position].1),

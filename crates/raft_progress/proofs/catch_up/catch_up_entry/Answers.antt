@@ -1,13 +1,5 @@
 use Rattle.std.proofs.Common.{arith}
-use Rattle.raft_progress.proofs.lemmas.catch_up.CatchUpLemmas.{
-  along_acked,
-  along_refused,
-  begins,
-  ends_run,
-  id_left,
-  monotone,
-  ready_from,
-}
+use Rattle.raft_progress.proofs.lemmas.catch_up.CatchUpLemmas.{along_acked, along_refused, begins, ends_run, id_left, monotone, ready_from}
 use Rattle.raft_progress.proofs.catch_up.catch_up_entry.Goals as goal
 
 pub turns-init : goal.turns-init

@@ -1,12 +1,4 @@
-use Rattle.raft_progress.proofs.lemmas.entry.SendableLemmas.{
-  ack_keeps,
-  begins_sendable,
-  conflict_keeps,
-  give_up_keeps,
-  growth_keeps,
-  send_keeps,
-  sendable_can_send,
-}
+use Rattle.raft_progress.proofs.lemmas.entry.SendableLemmas.{ack_keeps, begins_sendable, conflict_keeps, give_up_keeps, growth_keeps, send_keeps, sendable_can_send}
 use Rattle.raft_progress.proofs.laws.can_send_stays.Goals as goal
 
 pub returns-clause-begins : goal.returns-clause-begins

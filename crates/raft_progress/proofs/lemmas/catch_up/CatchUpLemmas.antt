@@ -1,40 +1,5 @@
 -- A whole honest run: what its test says, and what holds between its turns.
-use Rattle.std.proofs.Common.{
-  ◌≡◌,
-  ℕ,
-  suc,
-  ◌+◌,
-  ◌-◌,
-  ◌*◌,
-  ◌^◌,
-  ◌<◌,
-  ◌≤◌,
-  max,
-  Bool,
-  true,
-  false,
-  nat_eq,
-  nat_le,
-  nat_lt,
-  if◌then◌else◌,
-  Option,
-  Some,
-  None,
-  Result,
-  Ok,
-  Err,
-  IsTrue,
-  refl,
-  sym,
-  ap,
-  arith,
-  ◌⊎◌,
-  inl,
-  inr,
-  ◌∙◌,
-  ◌&&◌,
-  ◌||◌,
-}
+use Rattle.std.proofs.Common.{◌≡◌, ℕ, suc, ◌+◌, ◌-◌, ◌*◌, ◌^◌, ◌<◌, ◌≤◌, max, Bool, true, false, nat_eq, nat_le, nat_lt, if◌then◌else◌, Option, Some, None, Result, Ok, Err, IsTrue, refl, sym, ap, arith, ◌⊎◌, inl, inr, ◌∙◌, ◌&&◌, ◌||◌}
 use Rattle.std.proofs.Math.Nat.{suc-mul}
 use Rattle.std.proofs.lemmas.Bool.{cases_lt, leb-true, ltb-true}
 use Rattle.std.proofs.lemmas.Bool.Decides.{nat_tests}
@@ -64,18 +29,7 @@ use Rattle.raft_progress.specs.declared.inflight.InflightError.{InflightError}
 use Rattle.raft_progress.specs.declared.inflight.InflightOf.{InflightOf}
 use Rattle.raft_progress.specs.declared.inflight.InflightOf.TheVariants.{Logs}
 use Rattle.raft_progress.proofs.lemmas.search.HalvingLemmas.{Near}
-use Rattle.raft_progress.proofs.lemmas.catch_up.HonestRunLemmas.{
-  Acked,
-  Refused,
-  Sends,
-  at_end,
-  ids_total,
-  ready_acked,
-  ready_refused,
-  sends,
-  turn_acked,
-  turn_refused,
-}
+use Rattle.raft_progress.proofs.lemmas.catch_up.HonestRunLemmas.{Acked, Refused, Sends, at_end, ids_total, ready_acked, ready_refused, sends, turn_acked, turn_refused}
 use Rattle.raft_progress.proofs.lemmas.catch_up.HonestTurnLemmas.{Stands, ack_falls, ack_near, conflict_falls, conflict_halves, measure}
 use Rattle.raft_progress.proofs.lemmas.OrderLemmas.{AtMost-from_lt, le_lt, le_of_eq}
 use Rattle.raft_progress.proofs.lemmas.ListLemmas.{of_both, some_inside}

@@ -1,32 +1,5 @@
 -- The turns of an honest run over a log that has all from the purge point on.
-use Rattle.std.proofs.Common.{
-  ◌≡◌,
-  ℕ,
-  ◌+◌,
-  ◌-◌,
-  ◌^◌,
-  ◌<◌,
-  ◌≤◌,
-  max,
-  Bool,
-  true,
-  false,
-  nat_eq,
-  nat_lt,
-  ◌==◌,
-  Option,
-  Some,
-  None,
-  Ok,
-  Err,
-  IsTrue,
-  refl,
-  arith,
-  ◌⊎◌,
-  inl,
-  inr,
-  ap,
-}
+use Rattle.std.proofs.Common.{◌≡◌, ℕ, ◌+◌, ◌-◌, ◌^◌, ◌<◌, ◌≤◌, max, Bool, true, false, nat_eq, nat_lt, ◌==◌, Option, Some, None, Ok, Err, IsTrue, refl, arith, ◌⊎◌, inl, inr, ap}
 use Rattle.std.proofs.lemmas.Bool.{cases_lt, le-ltb, lt-ltb}
 use Rattle.std.proofs.lemmas.Bool.Decides.{nat_tests}
 use Rattle.std.specs.declared.cmp.Ordering.{Ordering}

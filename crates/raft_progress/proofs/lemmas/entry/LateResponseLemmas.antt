@@ -1,24 +1,5 @@
 -- Which responses an entry refuses by their id.
-use Rattle.std.specs.Prelude.{
-  ◌≡◌,
-  ℕ,
-  ◌+◌,
-  ◌==◌,
-  ◌&&◌,
-  ◌||◌,
-  nat_lt,
-  Bool,
-  true,
-  false,
-  cond,
-  Option,
-  Some,
-  Result,
-  Ok,
-  Err,
-  refl,
-  if◌then◌else◌,
-}
+use Rattle.std.specs.Prelude.{◌≡◌, ℕ, ◌+◌, ◌==◌, ◌&&◌, ◌||◌, nat_lt, Bool, true, false, cond, Option, Some, Result, Ok, Err, refl, if◌then◌else◌}
 use Rattle.std.specs.declared.cmp.Ordering.{Ordering}
 use Rattle.std.proofs.Common.{ap, ◌∙◌}
 use Rattle.std.proofs.lemmas.Bool.{ne_eqb}

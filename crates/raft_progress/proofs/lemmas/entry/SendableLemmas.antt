@@ -1,32 +1,5 @@
 -- What keeps a progress entry one that may be sent to.
-use Rattle.std.specs.Prelude.{
-  ◌≡◌,
-  ℕ,
-  zero,
-  suc,
-  ◌+◌,
-  ◌^◌,
-  ◌<◌,
-  ◌≤◌,
-  ◌&&◌,
-  ◌||◌,
-  ◌==◌,
-  nat_lt,
-  nat_le,
-  max,
-  Bool,
-  true,
-  false,
-  Option,
-  Some,
-  None,
-  Result,
-  Ok,
-  Err,
-  IfSome,
-  refl,
-  if◌then◌else◌,
-}
+use Rattle.std.specs.Prelude.{◌≡◌, ℕ, zero, suc, ◌+◌, ◌^◌, ◌<◌, ◌≤◌, ◌&&◌, ◌||◌, ◌==◌, nat_lt, nat_le, max, Bool, true, false, Option, Some, None, Result, Ok, Err, IfSome, refl, if◌then◌else◌}
 use Rattle.std.specs.Ordering.{is_le, nat_cmp}
 use Rattle.std.specs.declared.cmp.Ordering.{Ordering}
 use Rattle.std.proofs.Common.{arith, ltb-true, subst, sym}
@@ -44,15 +17,7 @@ use Rattle.raft_progress.specs.inflight.Inflight.{is_idle, is_sending_snapshot, 
 use Rattle.raft_progress.specs.inflight.InflightTable.{inflight_after_ack, inflight_after_conflict, is_within}
 use Rattle.raft_progress.specs.declared.entry.ProgressEntryOf.{ProgressEntryOf}
 use Rattle.raft_progress.specs.declared.inflight.InflightError.{InflightError}
-use Rattle.raft_progress.specs.declared.inflight.InflightError.TheVariants.{
-  AckOutOfRange,
-  ConflictBelowMatching,
-  ConflictNotAtPrev,
-  IndexTooLarge,
-  InvalidRequestId,
-  MatchingRegress,
-  SnapshotAckRegress,
-}
+use Rattle.raft_progress.specs.declared.inflight.InflightError.TheVariants.{AckOutOfRange, ConflictBelowMatching, ConflictNotAtPrev, IndexTooLarge, InvalidRequestId, MatchingRegress, SnapshotAckRegress}
 use Rattle.raft_progress.specs.declared.inflight.InflightOf.{InflightOf}
 use Rattle.raft_progress.specs.declared.inflight.InflightOf.TheVariants.{None as Idle, Logs, Snapshot}
 use Rattle.raft_progress.proofs.lemmas.ListLemmas.{of_both}

@@ -1,27 +1,5 @@
 -- Clones of entries, one after another, and of a whole progress.
-use Rattle.std.specs.Prelude.{
-  ◌≡◌,
-  ℕ,
-  ◌+◌,
-  ◌<◌,
-  Bool,
-  true,
-  ◌&&◌,
-  List,
-  [],
-  ◌∷◌,
-  ◌++◌,
-  length,
-  take,
-  refl,
-  nat_eq,
-  Result,
-  Ok,
-  Err,
-  MatchResult,
-  IfOk,
-  map,
-}
+use Rattle.std.specs.Prelude.{◌≡◌, ℕ, ◌+◌, ◌<◌, Bool, true, ◌&&◌, List, [], ◌∷◌, ◌++◌, length, take, refl, nat_eq, Result, Ok, Err, MatchResult, IfOk, map}
 use Rattle.std.specs.List.{AllZip}
 use Rattle.std.specs.Map.{keys_of}
 use Rattle.std.specs.Set.{ClonesAreEqual}

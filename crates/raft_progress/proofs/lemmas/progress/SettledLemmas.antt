@@ -1,26 +1,5 @@
 -- A progress is in order after an update.
-use Rattle.std.specs.Prelude.{
-  ◌≡◌,
-  ℕ,
-  ◌+◌,
-  ◌-◌,
-  ◌<◌,
-  ◌≤◌,
-  Bool,
-  true,
-  false,
-  cond,
-  List,
-  [],
-  ◌∷◌,
-  ◌++◌,
-  length,
-  take,
-  Option,
-  Some,
-  None,
-  position,
-}
+use Rattle.std.specs.Prelude.{◌≡◌, ℕ, ◌+◌, ◌-◌, ◌<◌, ◌≤◌, Bool, true, false, cond, List, [], ◌∷◌, ◌++◌, length, take, Option, Some, None, position}
 use Rattle.std.specs.Ordering.{is_le, is_lt}
 use Rattle.std.specs.declared.cmp.Ordering.{Ordering}
 use Rattle.std.specs.declared.cmp.Ordering.TheVariants.{Less, Equal, Greater}
@@ -28,24 +7,7 @@ use Rattle.std.specs.Cmp.{IsEquivalence, IsTotalOrder}
 use Rattle.std.specs.Map.{keys_of, lookup}
 use Rattle.std.specs.Set.{is_member}
 use Rattle.std.specs.List.{IsDistinct, prefix_len}
-use Rattle.std.proofs.Common.{
-  arith,
-  sym,
-  ap,
-  refl,
-  ◌∙◌,
-  true≢false,
-  get_or,
-  set,
-  subst,
-  suc,
-  zero,
-  ltb,
-  ltb-true,
-  ltb-false,
-  length-append,
-  append_assoc,
-}
+use Rattle.std.proofs.Common.{arith, sym, ap, refl, ◌∙◌, true≢false, get_or, set, subst, suc, zero, ltb, ltb-true, ltb-false, length-append, append_assoc}
 use Rattle.std.proofs.lemmas.List.{take-set-le, set-set, set-get_or, get_or-set_same, take-append-le, get_or-take}
 use Rattle.std.proofs.Math.Seq.{take-set-lt, get_or-append_seam, set-append_seam}
 use Rattle.std.proofs.lemmas.List.Quantifiers.{position-Some}
@@ -59,15 +21,7 @@ use Rattle.raft_progress.proofs.lemmas.progress.entries.FallingLemmas.{falling_r
 use Rattle.raft_progress.proofs.lemmas.progress.entries.PrefixLemmas.{prefix_fails}
 use Rattle.raft_progress.proofs.lemmas.progress.entries.MovedLemmas.{distinct_moved, member_moved, lookup_moved}
 use Rattle.raft_progress.proofs.lemmas.ListLemmas.{take_add}
-use Rattle.raft_progress.proofs.lemmas.progress.recount.CountedValueLemmas.{
-  counted_still,
-  counted_none,
-  counted_prefix,
-  not_below_still,
-  lead_fails,
-  in_lead,
-  not_both,
-}
+use Rattle.raft_progress.proofs.lemmas.progress.recount.CountedValueLemmas.{counted_still, counted_none, counted_prefix, not_below_still, lead_fails, in_lead, not_both}
 use Rattle.raft_progress.proofs.lemmas.progress.UpdateLemmas.{keys_take}
 
 tied : {P : Type 0} {cmp : P → P → Ordering} (o : IsTotalOrder cmp) (a b : P) → AtMost cmp a b → AtMost cmp b a → cmp a b ≡ Equal

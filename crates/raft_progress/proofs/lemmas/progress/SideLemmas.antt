@@ -1,31 +1,5 @@
 -- Voters of two configs that are counted in place of a quorum test.
-use Rattle.std.specs.Prelude.{
-  ◌≡◌,
-  ℕ,
-  ◌+◌,
-  ◌-◌,
-  ◌<◌,
-  ◌≤◌,
-  Bool,
-  true,
-  false,
-  cond,
-  ◌&&◌,
-  ◌||◌,
-  ◌/◌,
-  List,
-  [],
-  ◌∷◌,
-  Option,
-  Some,
-  count_by,
-  is_some,
-  length,
-  map,
-  max,
-  nat_le,
-  take,
-}
+use Rattle.std.specs.Prelude.{◌≡◌, ℕ, ◌+◌, ◌-◌, ◌<◌, ◌≤◌, Bool, true, false, cond, ◌&&◌, ◌||◌, ◌/◌, List, [], ◌∷◌, Option, Some, count_by, is_some, length, map, max, nat_le, take}
 use Rattle.std.specs.declared.cmp.Ordering.{Ordering}
 use Rattle.std.specs.Cmp.{Equal-is, IsEquivalence, IsTotalOrder, first_so, second_so}
 use Rattle.std.specs.declared.cmp.Ordering.TheVariants.{Equal, Greater, Less}

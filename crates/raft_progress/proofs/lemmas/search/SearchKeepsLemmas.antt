@@ -1,32 +1,5 @@
 -- What the events of a search keep of an entry: its match, and that the search ends no later.
-use Rattle.std.proofs.Common.{
-  ◌≡◌,
-  ◌∙◌,
-  ◌≤◌,
-  ℕ,
-  Bool,
-  true,
-  false,
-  nat_le,
-  nat_lt,
-  ◌&&◌,
-  ◌||◌,
-  ◌==◌,
-  ◌+◌,
-  if◌then◌else◌,
-  Result,
-  Ok,
-  Err,
-  List,
-  [],
-  ◌∷◌,
-  length,
-  drop,
-  refl,
-  sym,
-  subst,
-  arith,
-}
+use Rattle.std.proofs.Common.{◌≡◌, ◌∙◌, ◌≤◌, ℕ, Bool, true, false, nat_le, nat_lt, ◌&&◌, ◌||◌, ◌==◌, ◌+◌, if◌then◌else◌, Result, Ok, Err, List, [], ◌∷◌, length, drop, refl, sym, subst, arith}
 use Rattle.std.proofs.lemmas.Bool.Decides.{nat_tests}
 use Rattle.std.proofs.lemmas.List.{at_drop_all}
 use Rattle.std.specs.declared.cmp.Ordering.{Ordering}

@@ -1,29 +1,5 @@
 -- The bounds on the conflicts that a search accepts.
-use Rattle.std.proofs.Common.{
-  ◌≡◌,
-  ◌∙◌,
-  ℕ,
-  zero,
-  suc,
-  ◌+◌,
-  ◌/◌,
-  ◌^◌,
-  ◌<◌,
-  ◌≤◌,
-  refl,
-  sym,
-  ap,
-  arith,
-  List,
-  [],
-  ◌∷◌,
-  IfSome,
-  length,
-  get_or,
-  drop,
-  drop-cons,
-  add-one,
-}
+use Rattle.std.proofs.Common.{◌≡◌, ◌∙◌, ℕ, zero, suc, ◌+◌, ◌/◌, ◌^◌, ◌<◌, ◌≤◌, refl, sym, ap, arith, List, [], ◌∷◌, IfSome, length, get_or, drop, drop-cons, add-one}
 use Rattle.std.proofs.lemmas.List.{at_drop_all}
 use Rattle.std.specs.declared.cmp.Ordering.{Ordering}
 use Rattle.raft_base.specs.LogId.{next_index}

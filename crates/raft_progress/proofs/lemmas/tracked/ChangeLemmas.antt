@@ -17,13 +17,7 @@ use Rattle.raft_progress.proofs.lemmas.progress.UpdateLemmas.{IsSame-refl}
 use Rattle.std.specs.Result.{result_unwrap_or}
 use Rattle.raft_members.specs.membership.Refusal.{IsRefusal}
 use Rattle.raft_members.specs.declared.error.ChangeMembershipErrorOf.{ChangeMembershipErrorOf}
-use Rattle.raft_members.specs.declared.error.ChangeMembershipErrorOf.TheVariants.{
-  InProgress,
-  EmptyMembership,
-  LearnerNotFound,
-  OutOfMemory
-      as WantOfMemory,
-}
+use Rattle.raft_members.specs.declared.error.ChangeMembershipErrorOf.TheVariants.{InProgress, EmptyMembership, LearnerNotFound, OutOfMemory as WantOfMemory}
 use Rattle.raft_progress.specs.Inner.Refusal.{refusal_reply}
 use Rattle.raft_progress.specs.Inner.ViewAnswers.{IsViewChange}
 use Rattle.raft_progress.specs.progress.Answered.{Tells, is_refused}

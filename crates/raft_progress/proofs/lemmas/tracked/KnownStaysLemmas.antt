@@ -1,24 +1,5 @@
 -- What each quorum knows it knows after a run, over the changes that are made while it is granted.
-use Rattle.std.specs.Prelude.{
-  ◌≡◌,
-  ◌<◌,
-  Bool,
-  true,
-  false,
-  ◌&&◌,
-  ◌||◌,
-  cond,
-  length,
-  not,
-  List,
-  [],
-  ◌∷◌,
-  Option,
-  Some,
-  None,
-  MatchBool,
-  refl,
-}
+use Rattle.std.specs.Prelude.{◌≡◌, ◌<◌, Bool, true, false, ◌&&◌, ◌||◌, cond, length, not, List, [], ◌∷◌, Option, Some, None, MatchBool, refl}
 use Rattle.std.specs.Cmp.{IsEquivalence, IsTotalOrder}
 use Rattle.std.specs.Ordering.{is_lt}
 use Rattle.std.specs.declared.cmp.Ordering.{Ordering}
@@ -38,15 +19,7 @@ use Rattle.raft_progress.specs.tracked.Known.{GrantedAtChanges, KnownOverChanges
 use Rattle.raft_progress.specs.tracked.TrackedViewSteps.{IsTrackedDone, IsTrackedViewRun, IsTrackedViewStep, is_change}
 use Rattle.raft_progress.specs.tracked.TrackedState.{Configs, IsReady, TrackedView, has_quorum}
 use Rattle.raft_progress.specs.declared.progress.steps.Reply.{Reply}
-use Rattle.raft_progress.specs.declared.progress.steps.Reply.TheVariants.{
-  Granted,
-  Unknown,
-  WouldFall,
-  Refused,
-  BelowDefault,
-  BadLearners,
-  OutOfMemory,
-}
+use Rattle.raft_progress.specs.declared.progress.steps.Reply.TheVariants.{Granted, Unknown, WouldFall, Refused, BelowDefault, BadLearners, OutOfMemory}
 use Rattle.raft_progress.specs.declared.tracked.step.Step.{Step}
 use Rattle.raft_progress.specs.declared.tracked.step.Step.TheVariants.{Update, IncreaseTo, Change}
 use Rattle.raft_progress.proofs.lemmas.tracked.KnownLemmas.{change_keeps_granted}

@@ -21,17 +21,7 @@ use Rattle.raft_progress.specs.progress.Steps.{IsIncreased, IsWritten}
 use Rattle.raft_progress.specs.tracked.TrackedState.{Configs, IsReady, TrackedView, has_quorum, is_voter}
 use Rattle.raft_progress.specs.declared.progress.steps.Reply.{Reply}
 use Rattle.raft_progress.proofs.lemmas.progress.recount.CountedAfreshLemmas.{IsCounted-from_greatest}
-use Rattle.raft_progress.proofs.lemmas.progress.InOrderLemmas.{
-  counted_once,
-  counted_tied,
-  distinct_from_test,
-  equal_from_test,
-  falling_from_test,
-  lowest_from_test,
-  test_from_distinct,
-  test_from_falling,
-  test_from_lowest,
-}
+use Rattle.raft_progress.proofs.lemmas.progress.InOrderLemmas.{counted_once, counted_tied, distinct_from_test, equal_from_test, falling_from_test, lowest_from_test, test_from_distinct, test_from_falling, test_from_lowest}
 use Rattle.raft_progress.proofs.lemmas.progress.recount.RecountLemmas.{greatest_keeps, greatest_none, greatest_rises}
 use Rattle.raft_progress.proofs.lemmas.OrderLemmas.{AtMost-from_not_lt}
 use Rattle.raft_progress.proofs.lemmas.tracked.TrackedLemmas.{counts_increased, counts_written}

@@ -14,15 +14,7 @@ use Rattle.raft_progress.specs.progress.Steps.{IsIncreased, IsWritten, stays}
 use Rattle.raft_progress.specs.tracked.TrackedState.{AreLearners, Configs, CountsBy, HasConfigs, IsReady, has_quorum, is_voter}
 use Rattle.raft_progress.specs.progress.Upgrade.{Inherits, IsUpgraded}
 use Rattle.raft_progress.specs.declared.progress.steps.Reply.{Reply}
-use Rattle.raft_progress.specs.declared.progress.steps.Reply.TheVariants.{
-  Granted,
-  Unknown,
-  WouldFall,
-  Refused,
-  BelowDefault,
-  BadLearners,
-  OutOfMemory,
-}
+use Rattle.raft_progress.specs.declared.progress.steps.Reply.TheVariants.{Granted, Unknown, WouldFall, Refused, BelowDefault, BadLearners, OutOfMemory}
 
 and_not : (a b : Bool) → (a && not b) ≡ true → b ≡ false
 and_not true false h = refl

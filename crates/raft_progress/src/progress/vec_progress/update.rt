@@ -126,10 +126,11 @@ impl<ID: Copy + Ord, V: ProgressPart<P>, P: Copy + Ord, QS: QuorumSet<ID>> VecPr
         if position >= self.voter_count {
             return;
         }
-        if !is_below(&self.granted, &after) {
+        let granted = self.granted;
+        if !is_below(&granted, &after) {
             return;
         }
-        let passes_granted = is_at_most(&before, &self.granted);
+        let passes_granted = is_at_most(&before, &granted);
         if !passes_granted && !is_below(&before, &after) {
             return;
         }
@@ -204,8 +205,9 @@ impl<ID: Copy + Ord, V: ProgressPart<P>, P: Copy + Ord, QS: QuorumSet<ID>> VecPr
         if last >= self.voter_count {
             return;
         }
+        let granted = self.granted;
         let part = self.entries[last].1.part();
-        if !is_below(&self.granted, &part) {
+        if !is_below(&granted, &part) {
             return;
         }
         self.stat.is_quorum_count = self.stat.is_quorum_count.saturating_add(1);

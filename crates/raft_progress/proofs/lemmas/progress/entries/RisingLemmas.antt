@@ -3,23 +3,7 @@ use Rattle.std.specs.Prelude.{◌≡◌, ℕ, ◌+◌, ◌-◌, ◌<◌, ◌≤�
 use Rattle.std.specs.declared.cmp.Ordering.{Ordering}
 use Rattle.std.specs.Ordering.{is_lt}
 use Rattle.std.specs.List.{swap}
-use Rattle.std.proofs.Common.{
-  arith,
-  sym,
-  ap,
-  refl,
-  ◌∙◌,
-  true≢false,
-  get_or,
-  set,
-  suc,
-  zero,
-  append_assoc,
-  add-one,
-  ltb,
-  ltb-true,
-  ltb-false,
-}
+use Rattle.std.proofs.Common.{arith, sym, ap, refl, ◌∙◌, true≢false, get_or, set, suc, zero, append_assoc, add-one, ltb, ltb-true, ltb-false}
 use Rattle.std.specs.List.{prefix_len}
 use Rattle.std.proofs.lemmas.List.Sums.{prefix_len_passes, prefix_len_stops}
 use Rattle.std.proofs.lemmas.List.Edits.{swap_is}

@@ -21,15 +21,7 @@ use Rattle.raft_progress.specs.progress.UpgradeFold.{IsFold, TakesOverEach}
 use Rattle.raft_progress.specs.declared.progress.sides.Sides.{Sides}
 use Rattle.raft_progress.specs.declared.progress.stat.Stat.{Stat}
 use Rattle.raft_progress.specs.declared.progress.steps.Reply.{Reply}
-use Rattle.raft_progress.specs.declared.progress.steps.Reply.TheVariants.{
-  BadLearners,
-  BelowDefault,
-  Granted,
-  OutOfMemory,
-  Refused,
-  Unknown,
-  WouldFall,
-}
+use Rattle.raft_progress.specs.declared.progress.steps.Reply.TheVariants.{BadLearners, BelowDefault, Granted, OutOfMemory, Refused, Unknown, WouldFall}
 use Rattle.raft_progress.proofs.lemmas.OrderLemmas.{lt_reversed}
 use Rattle.raft_progress.proofs.lemmas.progress.UpdateLemmas.{lookup_alike, unknown_same}
 use Rattle.raft_progress.proofs.lemmas.progress.entries.EntriesLemmas.{no_value}

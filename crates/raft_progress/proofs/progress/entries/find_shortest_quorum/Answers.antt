@@ -1,14 +1,5 @@
 use Rattle.std.proofs.Common.{arith, sym, ◌∙◌, ◌≤◌}
-use Rattle.raft_progress.proofs.lemmas.progress.entries.PrefixLemmas.{
-  prefix_tested,
-  halves_failed,
-  halves_found,
-  halves_missed,
-  halves_none,
-  halves_passed,
-  single_prefix,
-  tests_fit,
-}
+use Rattle.raft_progress.proofs.lemmas.progress.entries.PrefixLemmas.{prefix_tested, halves_failed, halves_found, halves_missed, halves_none, halves_passed, single_prefix, tests_fit}
 use Rattle.raft_progress.proofs.progress.entries.find_shortest_quorum.Goals as goal
 
 pub overflow_add-tests : goal.overflow_add-tests

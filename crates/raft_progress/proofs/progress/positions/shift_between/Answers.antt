@@ -2,14 +2,7 @@ use Rattle.std.proofs.Common.{arith, rules, refl, sym, ap, subst, set, get_or, l
 use Rattle.std.specs.Map.{values_of}
 use Rattle.std.proofs.lemmas.List.{length-map}
 use Rattle.raft_progress.specs.Inner.Positions.{AreInverse, position_after}
-use Rattle.raft_progress.proofs.lemmas.progress.positions.InverseLemmas.{
-  keys_rewritten,
-  values_rewritten,
-  Lifted,
-  lifted_none,
-  lifted_more,
-  passed_within,
-}
+use Rattle.raft_progress.proofs.lemmas.progress.positions.InverseLemmas.{keys_rewritten, values_rewritten, Lifted, lifted_none, lifted_more, passed_within}
 use Rattle.raft_progress.proofs.progress.positions.shift_between.Goals as goal
 
 pub loop-position-init : goal.loop-position-init

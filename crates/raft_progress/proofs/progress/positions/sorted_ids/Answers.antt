@@ -5,14 +5,7 @@ use Rattle.std.proofs.lemmas.Fn.{always_returns_same}
 use Rattle.std.proofs.lemmas.List.{map-append, take_all, take_more}
 use Rattle.std.proofs.lemmas.Map.Entries.{length-keys_of}
 use Rattle.raft_progress.proofs.lemmas.progress.positions.LookupLemmas.{key_at}
-use Rattle.raft_progress.proofs.lemmas.progress.positions.MadeLemmas.{
-  ascending_from_sorted,
-  distinct_moved,
-  found_moved,
-  length_moved,
-  positions_moved,
-  range_more,
-}
+use Rattle.raft_progress.proofs.lemmas.progress.positions.MadeLemmas.{ascending_from_sorted, distinct_moved, found_moved, length_moved, positions_moved, range_more}
 use Rattle.raft_progress.proofs.progress.positions.sorted_ids.Goals as goal
 
 pub loop-position-preserved : goal.loop-position-preserved

@@ -1,13 +1,7 @@
 use Rattle.std.proofs.Common.{arith, sym, ap, ◌∙◌, true≢false, is_lt}
 use Rattle.raft_progress.proofs.lemmas.progress.recount.RecountLemmas.{loop_rises, loop_keeps, unreached_beyond}
 use Rattle.raft_progress.proofs.progress.recount.count.Goals as goal
-use Rattle.raft_progress.proofs.progress.recount.count.Goals.{
-  then-is_lt+then-is_below_bound+then-is_reached,
-  else-is_lt,
-  else-is_lt-via-then-is_lt+then-is_below_bound+else-is_reached,
-  else-is_lt-via-then-is_lt+else-is_below_bound,
-  else-is_lt-via-else-is_lt,
-}
+use Rattle.raft_progress.proofs.progress.recount.count.Goals.{then-is_lt+then-is_below_bound+then-is_reached, else-is_lt, else-is_lt-via-then-is_lt+then-is_below_bound+else-is_reached, else-is_lt-via-then-is_lt+else-is_below_bound, else-is_lt-via-else-is_lt}
 
 pub loop-entry-preserved : goal.loop-entry-preserved
 loop-entry-preserved g c =

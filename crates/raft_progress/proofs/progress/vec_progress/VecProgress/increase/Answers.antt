@@ -6,10 +6,7 @@ use Rattle.raft_progress.specs.progress.Steps.{falls, stays}
 use Rattle.raft_progress.specs.progress.VecProgress.{view}
 use Rattle.raft_progress.proofs.lemmas.progress.StepLemmas.{increase_known}
 use Rattle.raft_progress.proofs.progress.vec_progress.VecProgress.increase.Goals as goal
-use Rattle.raft_progress.proofs.progress.vec_progress.VecProgress.increase.Goals.{
-  else-not-is_not_greater-via-then-not-is_not_greater+else-would_fall,
-  else-not-is_not_greater-via-else-not-is_not_greater,
-}
+use Rattle.raft_progress.proofs.progress.vec_progress.VecProgress.increase.Goals.{else-not-is_not_greater-via-then-not-is_not_greater+else-would_fall, else-not-is_not_greater-via-else-not-is_not_greater}
 
 pub returns-in-Ok-clause-step : goal.returns-in-Ok-clause-step
 returns-in-Ok-clause-step g c =

@@ -4,12 +4,7 @@ use Rattle.std.proofs.lemmas.List.{append_assoc, take_all, take_more}
 use Rattle.raft_progress.specs.Inner.Conditions.{IsLeastPassing, is_value_below}
 use Rattle.raft_progress.proofs.lemmas.progress.upgrade.BelowLemmas.{least_falls, least_holds, least_stays}
 use Rattle.raft_progress.proofs.progress.vec_progress.VecProgress.least_of.Goals as goal
-use Rattle.raft_progress.proofs.progress.vec_progress.VecProgress.least_of.Goals.{
-  then-is_value_below+then-is_below_bound,
-  else-is_value_below,
-  else-is_value_below-via-then-is_value_below+else-is_below_bound,
-  else-is_value_below-via-else-is_value_below,
-}
+use Rattle.raft_progress.proofs.progress.vec_progress.VecProgress.least_of.Goals.{then-is_value_below+then-is_below_bound, else-is_value_below, else-is_value_below-via-then-is_value_below+else-is_below_bound, else-is_value_below-via-else-is_value_below}
 
 pub loop-id-preserved : goal.loop-id-preserved
 loop-id-preserved g c = λ seen h.

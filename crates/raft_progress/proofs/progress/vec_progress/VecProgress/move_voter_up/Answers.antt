@@ -2,13 +2,7 @@ use Rattle.std.proofs.Common.{ap, arith, sym, ◌∙◌, ◌≤◌, length, subs
 use Rattle.std.specs.Map.{keys_of}
 use Rattle.std.proofs.lemmas.Map.Entries.{length-keys_of}
 use Rattle.raft_progress.specs.Inner.Positions.{position_in}
-use Rattle.raft_progress.proofs.lemmas.progress.positions.PositionsLemmas.{
-  before_passed,
-  found_after,
-  passed_length,
-  position_ranked,
-  same_unless_passed,
-}
+use Rattle.raft_progress.proofs.lemmas.progress.positions.PositionsLemmas.{before_passed, found_after, passed_length, position_ranked, same_unless_passed}
 use Rattle.raft_progress.proofs.progress.vec_progress.VecProgress.move_voter_up.Goals as goal
 
 pub record_move-requires : goal.record_move-requires

@@ -1,15 +1,7 @@
 use Rattle.std.proofs.Common.{ap, subst, sym, ◌∙◌, ◌++◌}
 use Rattle.std.specs.List.{IsDistinct}
 use Rattle.std.specs.Map.{keys_of}
-use Rattle.raft_progress.proofs.lemmas.progress.NewProgressLemmas.{
-  IsDistinct-from_cmp,
-  all_placed,
-  distinct_with_learners,
-  fresh_is_new,
-  fresh_in_order,
-  keys_placed,
-  voters_within,
-}
+use Rattle.raft_progress.proofs.lemmas.progress.NewProgressLemmas.{IsDistinct-from_cmp, all_placed, distinct_with_learners, fresh_is_new, fresh_in_order, keys_placed, voters_within}
 use Rattle.raft_progress.proofs.progress.vec_progress.VecProgress.new.Goals as goal
 
 pub returns-clause-made : goal.returns-clause-made

@@ -7,10 +7,7 @@ use Rattle.raft_progress.proofs.lemmas.OrderLemmas.{le_lt}
 use Rattle.raft_progress.proofs.lemmas.ListLemmas.{element_at}
 use Rattle.raft_progress.proofs.lemmas.progress.entries.MovedLemmas.{distinct_moved}
 use Rattle.raft_progress.proofs.progress.vec_progress.VecProgress.restore_order.Goals as goal
-use Rattle.raft_progress.proofs.progress.vec_progress.VecProgress.restore_order.Goals.{
-  else-not-passes_granted-via-then-not-passes_granted+else-not-is_below-2,
-  else-not-passes_granted-via-else-not-passes_granted,
-}
+use Rattle.raft_progress.proofs.progress.vec_progress.VecProgress.restore_order.Goals.{else-not-passes_granted-via-then-not-passes_granted+else-not-is_below-2, else-not-passes_granted-via-else-not-passes_granted}
 use Rattle.std.proofs.lemmas.Bool.{le-ltb}
 
 and_false : (b c : Bool) → c ≡ false → (b && c) ≡ false

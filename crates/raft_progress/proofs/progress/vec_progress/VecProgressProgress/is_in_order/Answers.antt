@@ -6,17 +6,7 @@ use Rattle.raft_progress.specs.Inner.Recount.{IsGreatest, at_least}
 use Rattle.raft_progress.specs.Inner.Conditions.{never_rises}
 use Rattle.raft_progress.specs.progress.Entries.{state_of}
 use Rattle.raft_progress.proofs.lemmas.progress.recount.CountedAfreshLemmas.{IsCounted-from_greatest}
-use Rattle.raft_progress.proofs.lemmas.progress.InOrderLemmas.{
-  counted_once,
-  counted_tied,
-  distinct_from_test,
-  equal_from_test,
-  falling_from_test,
-  lowest_from_test,
-  test_from_distinct,
-  test_from_falling,
-  test_from_lowest,
-}
+use Rattle.raft_progress.proofs.lemmas.progress.InOrderLemmas.{counted_once, counted_tied, distinct_from_test, equal_from_test, falling_from_test, lowest_from_test, test_from_distinct, test_from_falling, test_from_lowest}
 use Rattle.raft_progress.proofs.lemmas.progress.UpdateLemmas.{IsDistinct-voters}
 use Rattle.raft_progress.proofs.progress.vec_progress.VecProgressProgress.is_in_order.Goals as goal
 
