@@ -6,16 +6,7 @@ use Rattle.std.specs.List.{slice_split}
 use Rattle.std.specs.Ordering.{nat_cmp}
 use Rattle.raft_base.specs.declared.node.EmptyNode.{EmptyNode}
 use Rattle.raft_members.specs.declared.change_members.ChangeMembers.{ChangeMembers}
-use Rattle.raft_members.specs.declared.change_members.ChangeMembers.TheVariants.{
-  AddVoterIds,
-  AddVoters,
-  RemoveVoters,
-  ReplaceAllVoters,
-  AddNodes,
-  SetNodes,
-  RemoveNodes,
-  ReplaceAllNodes,
-}
+use Rattle.raft_members.specs.declared.change_members.ChangeMembers.TheVariants.{AddVoterIds, AddVoters, RemoveVoters, ReplaceAllVoters, AddNodes, SetNodes, RemoveNodes, ReplaceAllNodes}
 use Rattle.raft_progress.specs.declared.tracked.step.Step.TheVariants.{Update, IncreaseTo, Change}
 use Rattle.raft_script.specs.Word.{IsConfigsOf, IsListOf, IsNumberOf}
 use Rattle.raft_script.specs.declared.script.command.Command.{Command}

@@ -2,15 +2,7 @@
 use Rattle.std.specs.Prelude.{ℕ, List, [], ◌∷◌, ◌++◌, Some, None, codes}
 use Rattle.std.specs.Fmt.{decimal}
 use Rattle.raft_progress.specs.declared.progress.steps.Reply.{Reply}
-use Rattle.raft_progress.specs.declared.progress.steps.Reply.TheVariants.{
-  Granted,
-  Unknown,
-  WouldFall,
-  Refused,
-  BelowDefault,
-  BadLearners,
-  OutOfMemory,
-}
+use Rattle.raft_progress.specs.declared.progress.steps.Reply.TheVariants.{Granted, Unknown, WouldFall, Refused, BelowDefault, BadLearners, OutOfMemory}
 
 -- a text and a line feed
 abbrev pub line : List ℕ → List ℕ

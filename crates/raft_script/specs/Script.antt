@@ -2,7 +2,7 @@
 use Rattle.std.specs.Prelude.{◌≡◌, ◌+◌, ◌^◌, ℕ, Bool, true, false, List, [], ◌∷◌, ◌++◌, Option, Some, None, IfSome, ◌⊎◌}
 use Rattle.std.specs.Io.KnownBytes.{Appends}
 use Rattle.raft_script.specs.Engine.{EngineState}
-use Rattle.raft_lines.specs.Lines.{TakesLine, lines}
+use Rattle.trace_lines.specs.Lines.{TakesLine, lines}
 use Rattle.raft_script.specs.Input.{TakesPart}
 use Rattle.raft_script.specs.LineRun.{AnswersLine}
 

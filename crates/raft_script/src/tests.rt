@@ -3,8 +3,6 @@
 
 mod command;
 mod dialogue;
-mod engine;
 mod reason;
-mod reply;
 mod script;
 mod support;

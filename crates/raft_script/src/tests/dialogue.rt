@@ -1,9 +1,8 @@
-//! Input and output: readers and writers that fail, cut scripts, and who types a piece at a time.
+//! Input and output: readers and writers that fail, and cut scripts.
 
 use crate::script::run;
 use crate::tests::support::{REPLIES, SCRIPT};
 use std::alloc::Global;
-use std::cell::Cell;
 use std::io::{self, Read, Write};
 use std::process::Abort;
 use std::test::Fail;
@@ -144,31 +143,11 @@ fn tells_of_a_failing_writer(rt: HostRuntime) {
     assert!(rt; faults > 5);
 }
 
-/// Returns its text a byte a read.
-#[derive(Drop)]
-struct ByteReader<'a> {
-    text: &'a [u8],
-}
-
-impl Read for ByteReader<'_> {
-    fn read(&mut self, buf: &mut [u8]) -> io::Result<usize> {
-        let n = self.text.len().min(buf.len()).min(1);
-        buf[..n].copy_from_slice(&self.text[..n]);
-        self.text = &self.text[n..];
-        Ok(n)
-    }
-}
-
 /// Runs a beginning of the script. Returns whether its whole lines have their replies, and a line
 /// that is cut inside is a bad line: each line ends in a word of one byte.
-fn answers_cut<R: Read + Drop>(
-    alloc: Global,
-    reader: R,
-    text: &[u8],
-    rest: &[u8],
-) -> Result<bool, Fail> {
+fn answers_cut(alloc: Global, text: &[u8], rest: &[u8]) -> Result<bool, Fail> {
     let mut out = Vec::new(alloc);
-    let status = run(alloc, reader, &mut out);
+    let status = run(alloc, text, &mut out);
     let lines = line_feeds(text, 0);
     if text.is_empty() || text.ends_with(b"\n") {
         return Ok(status == 0 && out.as_slice() == replies_to(lines));
@@ -187,75 +166,7 @@ fn answers_cut<R: Read + Drop>(
 fn answers_a_cut_script(rt: HostRuntime) -> Result<(), Fail> {
     for cut in 0..=SCRIPT.len() {
         let (text, rest) = SCRIPT.split_at(cut);
-        assert!(rt; answers_cut(rt.alloc(), text, text, rest)?, "at {cut}");
-        let reader = ByteReader { text };
-        assert!(rt;
-            answers_cut(rt.alloc(), reader, text, rest)?,
-            "by bytes, at {cut}"
-        );
+        assert!(rt; answers_cut(rt.alloc(), text, rest)?, "at {cut}");
     }
-    Ok(())
-}
-
-/// A typist who types a piece at a time, and notes before each piece how many bytes were written.
-#[derive(Drop)]
-struct Typist<'a> {
-    pieces: &'a [&'static str],
-    typed: usize,
-    written: &'a Cell<usize>,
-    seen: Vec<usize>,
-}
-
-impl Read for Typist<'_> {
-    fn read(&mut self, buf: &mut [u8]) -> io::Result<usize> {
-        self.seen.push(self.written.get())?;
-        let Some(piece) = self.pieces.get(self.typed) else {
-            return Ok(0);
-        };
-        self.typed = self.typed.saturating_add(1);
-        let n = piece.len().min(buf.len());
-        buf[..n].copy_from_slice(&piece.as_bytes()[..n]);
-        Ok(n)
-    }
-}
-
-/// Counts the bytes that are written.
-#[derive(Drop)]
-struct Counter<'a> {
-    written: &'a Cell<usize>,
-}
-
-impl Write for Counter<'_> {
-    fn write(&mut self, buf: &[u8]) -> io::Result<usize> {
-        self.written
-            .set(self.written.get().saturating_add(buf.len()));
-        Ok(buf.len())
-    }
-
-    fn flush(&mut self) -> io::Result<()> {
-        Ok(())
-    }
-}
-
-#[test]
-fn answers_before_it_waits(rt: HostRuntime) -> Result<(), Fail> {
-    let written = Cell::new(0);
-    let pieces = [
-        "init 0 1 -\nupdate 1 2\nupdate 1 3\nupd",
-        "ate 1 4",
-        "\n",
-        "update 1 3\nupdate 1 5",
-    ];
-    let mut typist = Typist {
-        pieces: &pieces,
-        typed: 0,
-        written: &written,
-        seen: Vec::new(rt.alloc()),
-    };
-    let status = run(rt.alloc(), &mut typist, &mut Counter { written: &written });
-    assert_eq!(rt; status, 0);
-    // Each `granted` with its number is 10 bytes, and `would-fall` 11.
-    assert_eq!(rt; typist.seen.as_slice(), [0, 20, 20, 30, 41].as_slice());
-    assert_eq!(rt; written.get(), 51);
     Ok(())
 }

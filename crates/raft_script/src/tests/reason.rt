@@ -8,28 +8,17 @@ use std::test::Fail;
 /// Scripts and the reasons why they end: a row is a script, `=` and the reason, and semicolons
 /// stand for line feeds.
 const ENDED: &[u8] = b"\
-=
 init 0 1 -;update 1 5;=
-x=line 1: `x` is no command
 ;;init 0 1 -;Update 1 5;x=line 4: `Update` is no command
-init=line 1: a word is missing at the end
 init 0 1=line 1: a word is missing at the end
 init -1 1 -=line 1: `-1` is no number
 init 0 1,,2 -=line 1: `1,,2` is no list of configs
-init 0 1//2 -=line 1: `1//2` is no list of configs
-init 0 None -=line 1: `None` is no list of configs
 init 0 none none=line 1: `none` is no list
 init 0 1/-/2 - -=line 1: `-` is one word too many
-init 0 1 -;update 1 18446744073709551616=line 2: `18446744073709551616` is no number
-init 0 1 -;update 1 5 6 7=line 2: `6` is one word too many
 init 0 1 -;increase one 5=line 2: `one` is no number
-init 0 1 -;change add-ids=line 2: a word is missing at the end
 init 0 1 -;change add-voters 4 retain 0=line 2: `add-voters` is no kind of change
-init 0 1 -;change remove-nodes 4/5 retain 0=line 2: `4/5` is no list
 init 0 1 -;change add 4 keep 0=line 2: `keep` is neither `retain` nor `drop`
-init 0 1 -;change replace-nodes - drop x=line 2: `x` is no number
 update 1 5=line 1: no `init` has succeeded before this step
-change set-nodes 2 drop 0=line 1: no `init` has succeeded before this step
 init 0 1 -;update\t1 5=line 2: `update\\t1` is no command
 init 0 1 -;update 1 \xff`=line 2: `\\xff`` is no number";
 

@@ -1,28 +1,5 @@
 -- Entries whose memberships follow one another, and what they leave.
-use Rattle.std.proofs.Common.{
-  ◌≡◌,
-  ℕ,
-  ◌+◌,
-  ◌-◌,
-  Bool,
-  true,
-  false,
-  ◌&&◌,
-  List,
-  [],
-  ◌∷◌,
-  ◌++◌,
-  Option,
-  Some,
-  None,
-  is_some,
-  nat_eq,
-  refl,
-  sym,
-  ap,
-  arith,
-  ◌∙◌,
-}
+use Rattle.std.proofs.Common.{◌≡◌, ℕ, ◌+◌, ◌-◌, Bool, true, false, ◌&&◌, List, [], ◌∷◌, ◌++◌, Option, Some, None, is_some, nat_eq, refl, sym, ap, arith, ◌∙◌}
 use Rattle.std.proofs.lemmas.Bool.{and_parts}
 use Rattle.std.proofs.lemmas.Bool.Decides.{nat_tests}
 use Rattle.std.proofs.lemmas.List.{append-nil}
@@ -40,14 +17,7 @@ use Rattle.raft_members.specs.declared.membership.stored.StoredMembershipOf.{Sto
 use Rattle.raft_progress.proofs.lemmas.OrderLemmas.{AtMost-from_lt}
 use Rattle.raft_state.proofs.lemmas.validate.RelationLemmas.{hold_all}
 use Rattle.raft_state.proofs.lemmas.log_id_list.KeptLemmas.{last_of_parts}
-use Rattle.raft_state.specs.raft_state.Appended.{
-  AppendsMemberships,
-  IsStoredBy,
-  are_consecutive,
-  begins_at_zero,
-  last_stored,
-  memberships_follow,
-}
+use Rattle.raft_state.specs.raft_state.Appended.{AppendsMemberships, IsStoredBy, are_consecutive, begins_at_zero, last_stored, memberships_follow}
 use Rattle.raft_state.specs.log_id_list.FullLog.{end_index}
 use Rattle.raft_state.specs.log_id_list.LogEdits.{log_after_append, log_after_extend, missing_ids}
 use Rattle.raft_state.specs.log_id_list.LogReads.{last_id}

@@ -1,29 +1,5 @@
 -- A state over which a snapshot is installed stays valid.
-use Rattle.std.proofs.Common.{
-  ◌≡◌,
-  ℕ,
-  ◌+◌,
-  ◌==◌,
-  ◌≤◌,
-  Bool,
-  true,
-  false,
-  ◌||◌,
-  List,
-  [],
-  ◌∷◌,
-  Option,
-  Some,
-  None,
-  if◌then◌else◌,
-  not,
-  nat_lt,
-  nat_le,
-  refl,
-  sym,
-  arith,
-  ◌∙◌,
-}
+use Rattle.std.proofs.Common.{◌≡◌, ℕ, ◌+◌, ◌==◌, ◌≤◌, Bool, true, false, ◌||◌, List, [], ◌∷◌, Option, Some, None, if◌then◌else◌, not, nat_lt, nat_le, refl, sym, arith, ◌∙◌}
 use Rattle.std.proofs.lemmas.Bool.{and_parts, or_left}
 use Rattle.std.proofs.lemmas.Bool.Decides.{nat_tests}
 use Rattle.std.specs.declared.cmp.Ordering.{Ordering}
@@ -38,12 +14,7 @@ use Rattle.raft_base.specs.declared.log_id.LogIdOf.{LogIdOf}
 use Rattle.raft_members.specs.membership.Stored.{log_id_of}
 use Rattle.raft_members.specs.declared.membership.stored.StoredMembershipOf.{StoredMembershipOf}
 use Rattle.raft_progress.proofs.lemmas.OrderLemmas.{AtMost-refl}
-use Rattle.raft_base.specs.declared.log_id.validate.Invalid.TheVariants.{
-  PurgedNext,
-  LastPurgedPastUpto,
-  SnapshotPastCommitted,
-  CommittedPastLast,
-}
+use Rattle.raft_base.specs.declared.log_id.validate.Invalid.TheVariants.{PurgedNext, LastPurgedPastUpto, SnapshotPastCommitted, CommittedPastLast}
 use Rattle.raft_state.proofs.lemmas.log_id_list.IdOrderLemmas.{leaders_symm, then_below, upto_equal}
 use Rattle.raft_state.proofs.lemmas.log_id_list.FrontLemmas.{from_first, rest_first, rest_last}
 use Rattle.raft_state.proofs.lemmas.log_id_list.KeyListLemmas.{IsKeyList}
@@ -51,14 +22,7 @@ use Rattle.raft_state.proofs.lemmas.validate.RelationLemmas.{all_hold, hold_all}
 use Rattle.raft_state.proofs.lemmas.log_id_list.OrderLemmas.{From, above_full, index_within, last_at_least}
 use Rattle.raft_state.proofs.lemmas.log_id_list.SameLogLemmas.{equal_found}
 use Rattle.raft_state.specs.log_id_list.FullLog.{end_index, first_index, full_log}
-use Rattle.raft_state.specs.raft_state.Install.{
-  is_logged,
-  is_not_past,
-  keeps_effective,
-  log_after_install,
-  log_to_keep,
-  memberships_after_install,
-}
+use Rattle.raft_state.specs.raft_state.Install.{is_logged, is_not_past, keeps_effective, log_after_install, log_to_keep, memberships_after_install}
 use Rattle.raft_state.specs.log_id_list.LogConditions.{can_purge}
 use Rattle.raft_state.specs.log_id_list.LogEdits.{log_after_purge, rest}
 use Rattle.raft_state.specs.log_id_list.LogReads.{first_id, id_at, last_id}

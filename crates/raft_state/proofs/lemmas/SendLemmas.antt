@@ -1,30 +1,5 @@
 -- What is sent over a log that has all its log ids from the purge point on.
-use Rattle.std.proofs.Common.{
-  ◌≡◌,
-  ℕ,
-  ◌+◌,
-  ◌^◌,
-  ◌<◌,
-  ◌≤◌,
-  Bool,
-  true,
-  false,
-  ◌&&◌,
-  nat_lt,
-  nat_le,
-  ◌==◌,
-  Result,
-  Ok,
-  Err,
-  IsTrue,
-  refl,
-  sym,
-  subst,
-  arith,
-  inl,
-  inr,
-  ◌∙◌,
-}
+use Rattle.std.proofs.Common.{◌≡◌, ℕ, ◌+◌, ◌^◌, ◌<◌, ◌≤◌, Bool, true, false, ◌&&◌, nat_lt, nat_le, ◌==◌, Result, Ok, Err, IsTrue, refl, sym, subst, arith, inl, inr, ◌∙◌}
 use Rattle.std.proofs.lemmas.Bool.{cases_lt, eq-eqb, le-ltb, leb-true, lt-ltb}
 use Rattle.std.proofs.lemmas.Bool.Decides.{nat_tests}
 use Rattle.std.specs.declared.cmp.Ordering.{Ordering}

@@ -7,14 +7,7 @@ use Rattle.raft_base.specs.LogView.{LogView}
 use Rattle.raft_base.specs.Validate.{first_false}
 use Rattle.raft_base.specs.declared.log_id.LogIdOf.{LogIdOf}
 use Rattle.raft_base.specs.declared.log_id.validate.Invalid.{Invalid}
-use Rattle.raft_base.specs.declared.log_id.validate.Invalid.TheVariants.{
-  PurgedNext,
-  LastPurgedPastUpto,
-  UptoPastCommitted,
-  UptoPastSnapshot,
-  SnapshotPastCommitted,
-  CommittedPastLast,
-}
+use Rattle.raft_base.specs.declared.log_id.validate.Invalid.TheVariants.{PurgedNext, LastPurgedPastUpto, UptoPastCommitted, UptoPastSnapshot, SnapshotPastCommitted, CommittedPastLast}
 use Rattle.raft_state.specs.log_id_list.FullLog.{full_log}
 use Rattle.raft_state.specs.log_id_list.LogReads.{first_id}
 use Rattle.raft_state.specs.membership_state.MembershipRelations.{membership_relations}

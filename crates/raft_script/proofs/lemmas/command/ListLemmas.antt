@@ -1,32 +1,5 @@
 -- Lists of numbers that are read part by part.
-use Rattle.std.specs.Prelude.{
-  ◌≡◌,
-  ◌==◌,
-  ◌<◌,
-  ◌||◌,
-  ℕ,
-  Bool,
-  true,
-  false,
-  cond,
-  List,
-  [],
-  ◌∷◌,
-  ◌++◌,
-  Option,
-  Some,
-  None,
-  SomeIff,
-  Result,
-  Ok,
-  Err,
-  OnOk,
-  is_ok,
-  if◌then◌else◌,
-  length,
-  codes,
-  nat_eq,
-}
+use Rattle.std.specs.Prelude.{◌≡◌, ◌==◌, ◌<◌, ◌||◌, ℕ, Bool, true, false, cond, List, [], ◌∷◌, ◌++◌, Option, Some, None, SomeIff, Result, Ok, Err, OnOk, is_ok, if◌then◌else◌, length, codes, nat_eq}
 use Rattle.std.specs.Cmp.{unsigned_tied}
 use Rattle.std.specs.Cmp.Lexicographic.{pointwise}
 use Rattle.std.specs.List.{All, AllZip, list_any, slice_split}

@@ -1,27 +1,5 @@
 -- The words of a line, taken one by one.
-use Rattle.std.specs.Prelude.{
-  ◌≡◌,
-  ◌==◌,
-  ◌<◌,
-  ◌≤◌,
-  ◌+◌,
-  ◌-◌,
-  ℕ,
-  Bool,
-  true,
-  false,
-  cond,
-  List,
-  [],
-  ◌∷◌,
-  filter,
-  length,
-  not,
-  Option,
-  Some,
-  None,
-  unwrap_or,
-}
+use Rattle.std.specs.Prelude.{◌≡◌, ◌==◌, ◌<◌, ◌≤◌, ◌+◌, ◌-◌, ℕ, Bool, true, false, cond, List, [], ◌∷◌, filter, length, not, Option, Some, None, unwrap_or}
 use Rattle.std.specs.List.{slice_split, onto_first, position_or_len}
 use Rattle.std.proofs.Common.{refl, sym, ap, ◌∙◌, take, drop, arith, get_or, ltb, length-drop}
 use Rattle.std.proofs.lemmas.Bool.{ltb-true, ltb-false}

@@ -3,16 +3,7 @@ use Rattle.std.proofs.lemmas.Result.{MatchResult-from_err}
 use Rattle.std.proofs.Common.{◌+◌, arith}
 use Rattle.raft_script.specs.Engine.{engine_state}
 use Rattle.raft_script.specs.LineRun.{AnswersLine}
-use Rattle.raft_script.proofs.lemmas.ScriptLemmas.{
-  broken_after,
-  broken_inside,
-  held_back,
-  passed_all,
-  passed_last,
-  passed_more,
-  passed_none,
-  passed_to_bad,
-}
+use Rattle.raft_script.proofs.lemmas.ScriptLemmas.{broken_after, broken_inside, held_back, passed_all, passed_last, passed_more, passed_none, passed_to_bad}
 use Rattle.raft_script.proofs.script.answer_lines.Goals as goal
 
 pub loop-passed-init : goal.loop-passed-init

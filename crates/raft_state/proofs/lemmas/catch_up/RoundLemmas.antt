@@ -1,32 +1,5 @@
 -- What holds between the visits of a round, and what is granted after it.
-use Rattle.std.proofs.Common.{
-  ◌≡◌,
-  ◌⊎◌,
-  inl,
-  inr,
-  ℕ,
-  ◌+◌,
-  ◌≤◌,
-  Bool,
-  true,
-  false,
-  ◌&&◌,
-  ◌||◌,
-  List,
-  [],
-  ◌∷◌,
-  ◌++◌,
-  length,
-  Option,
-  Some,
-  refl,
-  sym,
-  ap,
-  ◌∙◌,
-  subst,
-  arith,
-  if◌then◌else◌,
-}
+use Rattle.std.proofs.Common.{◌≡◌, ◌⊎◌, inl, inr, ℕ, ◌+◌, ◌≤◌, Bool, true, false, ◌&&◌, ◌||◌, List, [], ◌∷◌, ◌++◌, length, Option, Some, refl, sym, ap, ◌∙◌, subst, arith, if◌then◌else◌}
 use Rattle.std.proofs.lemmas.Bool.{or_right}
 use Rattle.std.proofs.lemmas.List.{append_assoc, append-nil}
 use Rattle.std.proofs.lemmas.Cmp.{tied_itself}
@@ -51,17 +24,7 @@ use Rattle.raft_progress.specs.progress.ProgressView.{ProgressView, state}
 use Rattle.raft_progress.specs.progress.Statistics.{count_after}
 use Rattle.raft_progress.specs.progress.Updated.{IsUpdated}
 use Rattle.raft_progress.specs.declared.entry.ProgressEntryOf.{ProgressEntryOf}
-use Rattle.raft_state.specs.raft_state.Round.{
-  Followers,
-  HasRun,
-  IsCaughtUp,
-  IsInOrderByMatch,
-  IsRound,
-  IsRoundEnd,
-  NonePastLast,
-  QuorumRan,
-  Visits,
-}
+use Rattle.raft_state.specs.raft_state.Round.{Followers, HasRun, IsCaughtUp, IsInOrderByMatch, IsRound, IsRoundEnd, NonePastLast, QuorumRan, Visits}
 
 -- an update of a known id to a value writes that value
 pub writes : {ID V P QS : Type 0} (eq : ID → ID → Bool) (cmp : P → P → Ordering) (part : V → P) (old new : ProgressView ID V P QS) (id : ID)

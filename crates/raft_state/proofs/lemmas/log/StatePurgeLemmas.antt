@@ -1,30 +1,5 @@
 -- A state whose log is purged stays valid.
-use Rattle.std.proofs.Common.{
-  ◌≡◌,
-  ℕ,
-  ◌+◌,
-  ◌==◌,
-  ◌≤◌,
-  ◌<◌,
-  Bool,
-  true,
-  false,
-  ◌&&◌,
-  List,
-  [],
-  ◌∷◌,
-  Option,
-  Some,
-  None,
-  if◌then◌else◌,
-  IfSome,
-  nat_lt,
-  nat_le,
-  refl,
-  ap,
-  arith,
-  ◌∙◌,
-}
+use Rattle.std.proofs.Common.{◌≡◌, ℕ, ◌+◌, ◌==◌, ◌≤◌, ◌<◌, Bool, true, false, ◌&&◌, List, [], ◌∷◌, Option, Some, None, if◌then◌else◌, IfSome, nat_lt, nat_le, refl, ap, arith, ◌∙◌}
 use Rattle.std.proofs.lemmas.Bool.{and_parts}
 use Rattle.std.proofs.lemmas.Bool.Decides.{nat_tests}
 use Rattle.std.specs.declared.cmp.Ordering.{Ordering}

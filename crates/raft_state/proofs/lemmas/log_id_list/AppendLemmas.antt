@@ -1,31 +1,5 @@
 -- What an append to the keys does to the full log.
-use Rattle.std.proofs.Common.{
-  ◌≡◌,
-  ℕ,
-  zero,
-  suc,
-  ◌+◌,
-  ◌-◌,
-  ◌<◌,
-  ◌≤◌,
-  Bool,
-  true,
-  false,
-  List,
-  [],
-  ◌∷◌,
-  ◌++◌,
-  if◌then◌else◌,
-  IsTrue,
-  refl,
-  sym,
-  arith,
-  append_assoc,
-  length,
-  get_or,
-  set,
-  ap,
-}
+use Rattle.std.proofs.Common.{◌≡◌, ℕ, zero, suc, ◌+◌, ◌-◌, ◌<◌, ◌≤◌, Bool, true, false, List, [], ◌∷◌, ◌++◌, if◌then◌else◌, IsTrue, refl, sym, arith, append_assoc, length, get_or, set, ap}
 use Rattle.std.specs.declared.cmp.Ordering.{Ordering}
 use Rattle.std.specs.Ordering.{is_le, is_lt}
 use Rattle.raft_base.specs.declared.log_id.LogIdOf.{LogIdOf}

@@ -1,42 +1,5 @@
 -- What a truncation or a purge of the keys does to the full log.
-use Rattle.std.proofs.Common.{
-  ◌≡◌,
-  ℕ,
-  zero,
-  suc,
-  ◌+◌,
-  ◌-◌,
-  ◌<◌,
-  ◌≤◌,
-  min,
-  max,
-  Bool,
-  true,
-  false,
-  List,
-  [],
-  ◌∷◌,
-  ◌++◌,
-  if◌then◌else◌,
-  IsTrue,
-  nat_lt,
-  nat_le,
-  refl,
-  sym,
-  arith,
-  length,
-  get_or,
-  set,
-  ap,
-  take,
-  drop,
-  ◌∙◌,
-  inl,
-  inr,
-  drop-cons,
-  subst,
-  length-drop,
-}
+use Rattle.std.proofs.Common.{◌≡◌, ℕ, zero, suc, ◌+◌, ◌-◌, ◌<◌, ◌≤◌, min, max, Bool, true, false, List, [], ◌∷◌, ◌++◌, if◌then◌else◌, IsTrue, nat_lt, nat_le, refl, sym, arith, length, get_or, set, ap, take, drop, ◌∙◌, inl, inr, drop-cons, subst, length-drop}
 use Rattle.std.specs.declared.cmp.Ordering.{Ordering}
 use Rattle.std.specs.Ordering.{is_le, is_lt}
 use Rattle.std.proofs.lemmas.Bool.{cases_lt}

@@ -1,26 +1,5 @@
 -- Appending log ids of one leader: the keys are those of appending the first one and the last one.
-use Rattle.std.proofs.Common.{
-  ◌≡◌,
-  ◌-◌,
-  ◌≤◌,
-  Bool,
-  true,
-  false,
-  List,
-  [],
-  ◌∷◌,
-  Some,
-  if◌then◌else◌,
-  IsTrue,
-  nat_lt,
-  refl,
-  sym,
-  ◌∙◌,
-  ap,
-  arith,
-  length,
-  map,
-}
+use Rattle.std.proofs.Common.{◌≡◌, ◌-◌, ◌≤◌, Bool, true, false, List, [], ◌∷◌, Some, if◌then◌else◌, IsTrue, nat_lt, refl, sym, ◌∙◌, ap, arith, length, map}
 use Rattle.std.proofs.lemmas.Bool.{and_parts}
 use Rattle.std.specs.Prelude.{slice_get}
 use Rattle.std.specs.Option.{option_map}

@@ -1,29 +1,5 @@
 -- Whether the last two log ids share a leader: of keys as of their full log, and after an append.
-use Rattle.std.proofs.Common.{
-  ◌≡◌,
-  ℕ,
-  zero,
-  suc,
-  ◌+◌,
-  ◌-◌,
-  ◌≤◌,
-  Bool,
-  true,
-  false,
-  nat_eq,
-  List,
-  [],
-  ◌∷◌,
-  ◌++◌,
-  if◌then◌else◌,
-  IfSome,
-  refl,
-  sym,
-  arith,
-  length,
-  length-append,
-  ◌∙◌,
-}
+use Rattle.std.proofs.Common.{◌≡◌, ℕ, zero, suc, ◌+◌, ◌-◌, ◌≤◌, Bool, true, false, nat_eq, List, [], ◌∷◌, ◌++◌, if◌then◌else◌, IfSome, refl, sym, arith, length, length-append, ◌∙◌}
 use Rattle.std.specs.declared.cmp.Ordering.{Ordering}
 use Rattle.raft_base.specs.declared.log_id.LogIdOf.{LogIdOf}
 use Rattle.raft_state.specs.log_id_list.FullLog.{full_log, ids_of}

@@ -1,28 +1,5 @@
 -- What the calls of a list do, from the laws of leaders.
-use Rattle.std.proofs.Common.{
-  ◌≡◌,
-  ℕ,
-  suc,
-  ◌+◌,
-  ◌-◌,
-  ◌<◌,
-  ◌≤◌,
-  max,
-  Bool,
-  true,
-  List,
-  [],
-  ◌∷◌,
-  Some,
-  IfSome,
-  IsTrue,
-  length,
-  map,
-  ap,
-  sym,
-  arith,
-  ◌∙◌,
-}
+use Rattle.std.proofs.Common.{◌≡◌, ℕ, suc, ◌+◌, ◌-◌, ◌<◌, ◌≤◌, max, Bool, true, List, [], ◌∷◌, Some, IfSome, IsTrue, length, map, ap, sym, arith, ◌∙◌}
 use Rattle.std.proofs.lemmas.Bool.{and_parts}
 use Rattle.std.specs.Prelude.{slice_get}
 use Rattle.std.specs.Option.{option_map, option_or}
@@ -43,15 +20,7 @@ use Rattle.raft_state.proofs.lemmas.log_id_list.SameLogLemmas.{is_same}
 use Rattle.raft_state.proofs.lemmas.log_id_list.AppendLemmas.{full_after, stays_key_list}
 use Rattle.raft_state.proofs.lemmas.log_id_list.IdOrderLemmas.{apart, strictly_less, upto_equal}
 use Rattle.raft_state.proofs.lemmas.log_id_list.CutLemmas.{cut_stays, first_full, full_purged, last_full, purge_stays, purged_first}
-use Rattle.raft_state.proofs.lemmas.log_id_list.ExtendLemmas.{
-  all_stay,
-  are_keys,
-  can_append,
-  full_after_all,
-  is_key_list,
-  last_added,
-  last_added_all,
-}
+use Rattle.raft_state.proofs.lemmas.log_id_list.ExtendLemmas.{all_stay, are_keys, can_append, full_after_all, is_key_list, last_added, last_added_all}
 use Rattle.raft_state.proofs.lemmas.log_id_list.EndsLemmas.{added_by_ends, last_of_map, last_of_some, last_or, one_leader}
 use Rattle.raft_state.proofs.lemmas.log_id_list.LastTwoLemmas.{last_two_after_append, last_two_of_full}
 use Rattle.raft_state.proofs.lemmas.log_id_list.EqualLemmas as Equal

@@ -1,27 +1,5 @@
 -- Equal logs stay equal under each edit, and have equal log ids.
-use Rattle.std.proofs.Common.{
-  ◌≡◌,
-  ℕ,
-  ◌+◌,
-  ◌==◌,
-  Bool,
-  true,
-  false,
-  ◌&&◌,
-  List,
-  [],
-  ◌∷◌,
-  filter,
-  if◌then◌else◌,
-  IsTrue,
-  Some,
-  nat_eq,
-  nat_lt,
-  nat_le,
-  refl,
-  ap,
-  arith,
-}
+use Rattle.std.proofs.Common.{◌≡◌, ℕ, ◌+◌, ◌==◌, Bool, true, false, ◌&&◌, List, [], ◌∷◌, filter, if◌then◌else◌, IsTrue, Some, nat_eq, nat_lt, nat_le, refl, ap, arith}
 use Rattle.std.proofs.lemmas.Bool.Decides.{nat_tests}
 use Rattle.std.specs.Cmp.{IsEquivalence}
 use Rattle.std.specs.Cmp.Derive.{both_true}

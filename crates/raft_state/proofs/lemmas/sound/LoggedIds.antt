@@ -1,28 +1,5 @@
 -- Log ids that a log has, and what edits of the log leave of them.
-use Rattle.std.proofs.Common.{
-  ◌≡◌,
-  ℕ,
-  ◌+◌,
-  ◌<◌,
-  ◌≤◌,
-  Bool,
-  true,
-  false,
-  ◌||◌,
-  List,
-  Option,
-  Some,
-  None,
-  nat_eq,
-  nat_le,
-  refl,
-  sym,
-  arith,
-  inl,
-  inr,
-  true≢false,
-  ◌∙◌,
-}
+use Rattle.std.proofs.Common.{◌≡◌, ℕ, ◌+◌, ◌<◌, ◌≤◌, Bool, true, false, ◌||◌, List, Option, Some, None, nat_eq, nat_le, refl, sym, arith, inl, inr, true≢false, ◌∙◌}
 use Rattle.std.proofs.lemmas.Bool.{cases_lt, or_left, or_right}
 use Rattle.std.proofs.lemmas.Bool.Decides.{nat_tests}
 use Rattle.std.specs.declared.cmp.Ordering.{Ordering}

@@ -1,28 +1,5 @@
 -- Memberships that are in the log or purged, and what the calls of a state leave of them.
-use Rattle.std.proofs.Common.{
-  ◌≡◌,
-  ℕ,
-  suc,
-  ◌+◌,
-  ◌≤◌,
-  Bool,
-  true,
-  false,
-  List,
-  [],
-  ◌∷◌,
-  Option,
-  Some,
-  None,
-  if◌then◌else◌,
-  map,
-  nat_le,
-  refl,
-  sym,
-  arith,
-  true≢false,
-  ◌∙◌,
-}
+use Rattle.std.proofs.Common.{◌≡◌, ℕ, suc, ◌+◌, ◌≤◌, Bool, true, false, List, [], ◌∷◌, Option, Some, None, if◌then◌else◌, map, nat_le, refl, sym, arith, true≢false, ◌∙◌}
 use Rattle.std.proofs.lemmas.Bool.{and_parts, or_right}
 use Rattle.std.proofs.lemmas.Bool.Decides.{nat_tests}
 use Rattle.std.specs.declared.cmp.Ordering.{Ordering}
@@ -37,28 +14,13 @@ use Rattle.raft_members.specs.declared.membership.stored.StoredMembershipOf.{Sto
 use Rattle.raft_progress.proofs.lemmas.OrderLemmas.{AtMost-from_lt, le_lt, not_lt-from_AtMost}
 use Rattle.raft_state.proofs.lemmas.log_id_list.IdOrderLemmas.{then_less}
 use Rattle.raft_state.proofs.lemmas.log_id_list.OrderLemmas.{From}
-use Rattle.raft_state.proofs.lemmas.sound.LoggedIds.{
-  ends_not_past,
-  extension_keeps,
-  front_keeps,
-  in_log,
-  purge_keeps,
-  purged_or_in,
-  same_itself,
-}
+use Rattle.raft_state.proofs.lemmas.sound.LoggedIds.{ends_not_past, extension_keeps, front_keeps, in_log, purge_keeps, purged_or_in, same_itself}
 use Rattle.raft_state.specs.raft_state.Appended.{AppendsMemberships}
 use Rattle.raft_state.specs.log_id_list.FullLog.{first_index}
 use Rattle.raft_state.specs.log_id_list.LogConditions.{all_follow, follows}
 use Rattle.raft_state.specs.log_id_list.LogEdits.{front, log_after_purge}
 use Rattle.raft_state.specs.log_id_list.LogKept.{HasIds, KeepsIds}
-use Rattle.raft_state.specs.membership_state.MembershipMoves.{
-  after_append,
-  after_commit,
-  after_truncate,
-  commits,
-  is_cut,
-  is_effective_committed,
-}
+use Rattle.raft_state.specs.membership_state.MembershipMoves.{after_append, after_commit, after_truncate, commits, is_cut, is_effective_committed}
 use Rattle.raft_state.specs.membership_state.Memberships.{Memberships}
 
 -- both memberships are in this log or purged, and the effective one is committed once its log id is

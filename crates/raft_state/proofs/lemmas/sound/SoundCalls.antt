@@ -1,27 +1,5 @@
 -- What the calls of a state leave of a sound one.
-use Rattle.std.proofs.Common.{
-  ◌≡◌,
-  ℕ,
-  ◌+◌,
-  ◌==◌,
-  ◌<◌,
-  ◌≤◌,
-  Bool,
-  true,
-  false,
-  List,
-  [],
-  ◌∷◌,
-  Option,
-  Some,
-  None,
-  if◌then◌else◌,
-  nat_le,
-  refl,
-  sym,
-  arith,
-  ◌∙◌,
-}
+use Rattle.std.proofs.Common.{◌≡◌, ℕ, ◌+◌, ◌==◌, ◌<◌, ◌≤◌, Bool, true, false, List, [], ◌∷◌, Option, Some, None, if◌then◌else◌, nat_le, refl, sym, arith, ◌∙◌}
 use Rattle.std.proofs.lemmas.Bool.{and_parts}
 use Rattle.std.proofs.lemmas.Bool.Decides.{nat_tests}
 use Rattle.std.specs.declared.cmp.Ordering.{Ordering}
@@ -32,14 +10,7 @@ use Rattle.raft_base.specs.LogIdLawful.{optional-log_id_cmp-total}
 use Rattle.raft_base.specs.LogIndex.{index_le}
 use Rattle.raft_base.specs.Validate.{first_false}
 use Rattle.raft_base.specs.declared.log_id.LogIdOf.{LogIdOf}
-use Rattle.raft_base.specs.declared.log_id.validate.Invalid.TheVariants.{
-  PurgedNext,
-  LastPurgedPastUpto,
-  SnapshotPastCommitted,
-  CommittedPastLast,
-  MembershipLogId,
-  MembershipIndex,
-}
+use Rattle.raft_base.specs.declared.log_id.validate.Invalid.TheVariants.{PurgedNext, LastPurgedPastUpto, SnapshotPastCommitted, CommittedPastLast, MembershipLogId, MembershipIndex}
 use Rattle.raft_members.specs.membership.Stored.{log_id_of}
 use Rattle.raft_progress.proofs.lemmas.OrderLemmas.{AtMost-refl, AtMost-trans}
 use Rattle.raft_state.proofs.lemmas.TruncateLemmas.{cut_stays_valid, upto_committed}
@@ -48,24 +19,10 @@ use Rattle.raft_state.proofs.lemmas.log.StatePurgeLemmas.{purge_stays_valid}
 use Rattle.raft_state.proofs.lemmas.log_id_list.FrontLemmas.{from_first}
 use Rattle.raft_state.proofs.lemmas.log_id_list.KeptLemmas.{purged_ends}
 use Rattle.raft_state.proofs.lemmas.log_id_list.KeyListLemmas.{IsKeyList}
-use Rattle.raft_state.proofs.lemmas.sound.LoggedIds.{
-  at_below,
-  at_most_last,
-  ends_before,
-  ends_past,
-  extension_has,
-  found_below,
-  front_has,
-  in_log,
-  in_order,
-  is_kept,
-  is_logged,
-  purge_has,
-  within,
-}
+use Rattle.raft_state.proofs.lemmas.sound.LoggedIds.{at_below, at_most_last, ends_before, ends_past, extension_has, found_below, front_has, in_log, in_order, is_kept, is_logged, purge_has, within}
 use Rattle.raft_state.proofs.lemmas.sound.LoggedMembers.{AreKept, commit_members, cut_members, purge_members}
 use Rattle.raft_state.proofs.lemmas.validate.RelationLemmas.{all_hold, hold_all}
-use Rattle.raft_state.specs.Accepted.{accepted_from, accepted_id, accepted_upto, after_accept, last_accepted}
+use Rattle.raft_state.specs.Accepted.{accepted_from, accepted_upto, last_accepted}
 use Rattle.raft_state.specs.raft_state.BuiltSnapshot.{may_build_snapshot, may_schedule_purge}
 use Rattle.raft_state.specs.log_id_list.FullLog.{end_index, first_index, full_log}
 use Rattle.raft_state.specs.log_id_list.LogEdits.{front, log_after_purge}
@@ -165,20 +122,6 @@ module _ {C : Type 0} (cmp : C → C → Ordering) (eq : C → C → Bool) where
   pub committed_in : {K N I L : Type 0} (s : RaftStateIn K N I L C) → IsSound eq cmp s
       → in_log eq (full_log s.log_ids) s.committed ≡ true
   committed_in s sound = sym (is_logged eq s s.committed) ∙ sound.committed
-
-  pub accept_sound : {K N I L : Type 0} (same : L → L → Bool) (s : RaftStateIn K N I L C) (leader : L) (id : Option (LogIdOf C))
-      → id_le cmp id (last_id (full_log s.log_ids)) ≡ true → IsSound eq cmp s
-      → IsSound eq cmp (record s { accepted = after_accept same cmp s.accepted leader id })
-  accept_sound {K} {N} {I} {L} same s leader id low sound =
-      makes_sound (record s { accepted = after_accept same cmp s.accepted leader id }) sound.valid (purge_point_in s sound)
-      (committed_in s sound)
-      (by (id_lt cmp (accepted_id same s.accepted leader) id)) (members_of s sound)
-    where
-      by : (t : Bool)
-          → id_le cmp (last_accepted (let a : AcceptedIn L C = (if t then accepted_from leader id else s.accepted) in a))
-          (last_id (full_log s.log_ids)) ≡ true
-      by true = low
-      by false = sound.accepted
 
 -- a snapshot of its own, and a purge point up to it
 module _ {C : Type 0} {cmp : C → C → Ordering} (total : IsTotalOrder cmp) where

@@ -1,31 +1,5 @@
 -- What an install leaves of a sound state, and of its memberships.
-use Rattle.std.proofs.Common.{
-  ◌≡◌,
-  ℕ,
-  ◌+◌,
-  ◌==◌,
-  ◌≤◌,
-  Bool,
-  true,
-  false,
-  ◌&&◌,
-  ◌||◌,
-  List,
-  [],
-  ◌∷◌,
-  Option,
-  Some,
-  None,
-  if◌then◌else◌,
-  nat_eq,
-  nat_le,
-  nat_lt,
-  refl,
-  sym,
-  arith,
-  true≢false,
-  ◌∙◌,
-}
+use Rattle.std.proofs.Common.{◌≡◌, ℕ, ◌+◌, ◌==◌, ◌≤◌, Bool, true, false, ◌&&◌, ◌||◌, List, [], ◌∷◌, Option, Some, None, if◌then◌else◌, nat_eq, nat_le, nat_lt, refl, sym, arith, true≢false, ◌∙◌}
 use Rattle.std.proofs.lemmas.Bool.{and_parts, or_left}
 use Rattle.std.proofs.lemmas.Bool.Decides.{nat_tests}
 use Rattle.std.specs.declared.cmp.Ordering.{Ordering}
@@ -45,31 +19,13 @@ use Rattle.raft_state.proofs.lemmas.InstallLemmas.{install_stays_valid, not_belo
 use Rattle.raft_state.proofs.lemmas.log_id_list.FrontLemmas.{from_first}
 use Rattle.raft_state.proofs.lemmas.log_id_list.KeptLemmas.{purged_reads}
 use Rattle.raft_state.proofs.lemmas.log_id_list.KeyListLemmas.{IsKeyList}
-use Rattle.raft_state.proofs.lemmas.sound.LoggedIds.{
-  either_second,
-  ends_after,
-  ends_by,
-  in_log,
-  in_order,
-  purge_keeps,
-  purged_or_in,
-  same_itself,
-  within,
-}
+use Rattle.raft_state.proofs.lemmas.sound.LoggedIds.{either_second, ends_after, ends_by, in_log, in_order, purge_keeps, purged_or_in, same_itself, within}
 use Rattle.raft_state.proofs.lemmas.sound.LoggedMembers.{AreKept, alone}
 use Rattle.raft_state.proofs.lemmas.sound.SoundCalls.{accepted_fits, first_not_past, makes_sound, members_in_order, members_of, next_rises}
 use Rattle.raft_state.proofs.lemmas.validate.RelationLemmas.{all_hold}
 use Rattle.raft_state.specs.Accepted.{accepted_upto}
 use Rattle.raft_state.specs.log_id_list.FullLog.{first_index, full_log}
-use Rattle.raft_state.specs.raft_state.Install.{
-  is_logged,
-  is_not_above,
-  is_not_past,
-  keeps_committed,
-  keeps_effective,
-  log_after_install,
-  memberships_after_install,
-}
+use Rattle.raft_state.specs.raft_state.Install.{is_logged, is_not_above, is_not_past, keeps_committed, keeps_effective, log_after_install, memberships_after_install}
 use Rattle.raft_state.specs.log_id_list.LogEdits.{log_after_purge}
 use Rattle.raft_state.specs.log_id_list.LogReads.{first_id, last_id}
 use Rattle.raft_state.specs.membership_state.MembershipMoves.{after_update_committed, is_covered}

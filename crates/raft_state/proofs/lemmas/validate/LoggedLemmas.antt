@@ -1,34 +1,5 @@
 -- If the purge point is in the log, the log has all its log ids from there on.
-use Rattle.std.proofs.Common.{
-  ◌≡◌,
-  ℕ,
-  suc,
-  ◌+◌,
-  ◌<◌,
-  ◌≤◌,
-  Bool,
-  true,
-  false,
-  nat_lt,
-  nat_le,
-  ◌==◌,
-  if◌then◌else◌,
-  List,
-  [],
-  ◌∷◌,
-  Option,
-  Some,
-  None,
-  IsTrue,
-  refl,
-  sym,
-  ap,
-  subst,
-  arith,
-  inl,
-  inr,
-  ◌∙◌,
-}
+use Rattle.std.proofs.Common.{◌≡◌, ℕ, suc, ◌+◌, ◌<◌, ◌≤◌, Bool, true, false, nat_lt, nat_le, ◌==◌, if◌then◌else◌, List, [], ◌∷◌, Option, Some, None, IsTrue, refl, sym, ap, subst, arith, inl, inr, ◌∙◌}
 use Rattle.std.specs.Option.{is_some, option_or}
 use Rattle.std.specs.declared.cmp.Ordering.{Ordering}
 use Rattle.std.specs.Ordering.{nat_cmp, is_le}

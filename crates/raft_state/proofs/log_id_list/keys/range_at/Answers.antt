@@ -1,13 +1,6 @@
 use Rattle.std.proofs.Common.{◌≡◌, ◌-◌, ◌<◌, ◌≤◌, ◌⊎◌, inl, inr, ◌∙◌, sym, arith, get_or, length}
 use Rattle.raft_base.specs.declared.log_id.LogIdOf.{LogIdOf}
-use Rattle.raft_state.proofs.lemmas.log_id_list.FullLogLemmas.{
-  key_list_rises_zero,
-  last_counted,
-  next_past,
-  none_here,
-  none_past,
-  one_leader_from_key,
-}
+use Rattle.raft_state.proofs.lemmas.log_id_list.FullLogLemmas.{key_list_rises_zero, last_counted, next_past, none_here, none_past, one_leader_from_key}
 use Rattle.raft_state.proofs.lemmas.log_id_list.ExtendLemmas.{is_key_list}
 use Rattle.raft_state.proofs.log_id_list.keys.range_at.Goals as goal
 use Rattle.raft_state.proofs.log_id_list.keys.range_at.Goals.{then-covered-keys, else-covered-keys}

@@ -1,14 +1,7 @@
 use Rattle.std.proofs.Common.{length, sym, ◌∙◌}
 use Rattle.raft_base.specs.LogView.{has_id}
 use Rattle.raft_state.specs.raft_state.VoteAndLog.{log_view_of}
-use Rattle.raft_state.proofs.lemmas.log.ConflictLemmas.{
-  fails_here,
-  passes_here,
-  passes_all,
-  place_fails,
-  place_passes,
-  place_within,
-}
+use Rattle.raft_state.proofs.lemmas.log.ConflictLemmas.{fails_here, passes_here, passes_all, place_fails, place_passes, place_within}
 use Rattle.raft_state.proofs.raft_state.RaftStateIn.first_conflicting_index.Goals as goal
 
 pub returns-then-not-has_entry-clause-place : goal.returns-then-not-has_entry-clause-place
