@@ -1,7 +1,0 @@
-use Rattle.std.proofs.Common.{◌≡◌, drop}
-use Rattle.raft_handlers.specs.Entries.{are_in_order}
-use Rattle.raft_handlers.proofs.log.are_successors.Given as goal
-
-abbrev pub invariant-loop-entry : goal.invariant-loop-entry
-invariant-loop-entry g l =
-    are_in_order g.C.Ord.cmp l.after (drop l.entry-index l.entries) ≡ are_in_order g.C.Ord.cmp l.fn.last l.entries

@@ -1,9 +1,0 @@
-use Rattle.std.specs.Cmp.{nat_eq_equiv}
-use Rattle.raft_handlers_tests.proofs.lemmas.AloneLemmas.{alone_elected}
-use Rattle.raft_handlers_tests.proofs.uses.elects_itself.Goals as goal
-
-pub returns : goal.returns
-returns c = record {
-  alone = λ configs.
-      c.is_elected.ensures.1 (alone_elected _ nat_eq_equiv c.args.id 0 _ _ _ c.in_ok-candidate.ensures.campaigns configs);
-}
