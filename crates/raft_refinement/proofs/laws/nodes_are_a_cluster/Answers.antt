@@ -1,6 +1,0 @@
-use Rattle.raft_refinement.proofs.LawLemmas.{nodes_cluster}
-use Rattle.raft_refinement.proofs.laws.nodes_are_a_cluster.Goals as goal
-
-pub returns : goal.returns
-returns g c =
-    nodes_cluster _ g.met.L.LeaderIdentity.made (assumption (c.requires))

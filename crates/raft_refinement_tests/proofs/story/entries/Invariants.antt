@@ -1,6 +1,0 @@
-use Rattle.raft_refinement_tests.specs.Story.{AreLogged}
-use Rattle.raft_state.specs.log_id_list.FullLog.{full_log}
-use Rattle.raft_refinement_tests.proofs.story.entries.Given as goal
-
-abbrev pub invariant-loop-index : goal.invariant-loop-index
-invariant-loop-index g l = AreLogged (full_log l.state.log_ids) l.read.items
