@@ -1,5 +1,0 @@
-use Rattle.raft_safety.proofs.lemmas.AppliedTraceLemmas.{trace_is_safe}
-use Rattle.raft_safety.proofs.laws.applied_traces_are_executions.Goals as goal
-
-pub returns : goal.returns
-returns g c = λ tests exact es ranks allowed. trace_is_safe tests exact es ranks allowed

@@ -1,6 +1,0 @@
-use Rattle.raft_safety.specs.Facts.{appended}
-use Rattle.raft_safety.proofs.lemmas.AppendLemmas.{check_suffices}
-use Rattle.raft_safety.proofs.laws.consistency_check_suffices.Goals as goal
-
-pub returns : goal.returns
-returns g c = λ rank quorum h follows safe. check_suffices rank (appended quorum) h follows safe

@@ -1,5 +1,0 @@
-use Rattle.raft_safety.proofs.lemmas.RankLemmas.{ranked}
-use Rattle.raft_safety.proofs.laws.orders_have_ranks.Goals as goal
-
-pub returns : goal.returns
-returns g c = λ same used. ranked g.met.C.Ord.total same used
