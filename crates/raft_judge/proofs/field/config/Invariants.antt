@@ -1,7 +1,0 @@
-use Rattle.raft_judge.specs.Inner.Table.{numbering}
-use Rattle.raft_judge.specs.Names.{HasNumber}
-use Rattle.raft_judge.proofs.lemmas.FieldLemmas.{SaySoFar}
-use Rattle.raft_judge.proofs.field.config.Given as goal
-
-abbrev pub invariant-loop-item : goal.invariant-loop-item
-invariant-loop-item l = SaySoFar (HasNumber (numbering l.names)) l.item-items l.item-index l.voters.items

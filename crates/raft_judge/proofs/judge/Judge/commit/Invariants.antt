@@ -1,7 +1,0 @@
-use Rattle.raft_judge.specs.Inner.Taken.{Fills}
-use Rattle.raft_judge.specs.Numbers.{number_tests}
-use Rattle.raft_judge.proofs.judge.Judge.commit.Given as goal
-
--- events may have been filled in
-abbrev pub invariant-loop-number : goal.invariant-loop-number
-invariant-loop-number l = Fills number_tests l.fn.self l.self

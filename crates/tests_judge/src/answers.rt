@@ -1,0 +1,306 @@
+//! Answers to recorded runs.
+
+use crate::rows::Row;
+use std::alloc::{AllocError, Global};
+use std::test::Fail;
+use trace_judge::run::run;
+use trace_judge::{Lines, Progress};
+
+/// The cluster of the rows: server 1 leads in term 1 by the vote of server 2, and writes an entry,
+/// which is the second of the engine. Server 2 takes it. Server 3, which has no entry, campaigns in
+/// term 2.
+pub const LED: &str = r#"{"event":"started","voters":[[1,2,3]],"first":2}
+{"event":"campaigned","server":1,"term":1}
+{"event":"granted","server":2,"term":1,"candidate":1}
+{"event":"wrote","leader":1,"term":1,"index":2,"content":7}
+{"event":"appended","server":1,"term":1,"leader":1,"prev":1,"entries":[[1,7]]}
+{"event":"acked","server":1,"term":1,"leader":1,"index":2}
+{"event":"appended","server":2,"term":1,"leader":1,"prev":1,"entries":[[1,7]]}
+{"event":"campaigned","server":3,"term":2}
+"#;
+
+/// Runs that begin with the lines of `LED`.
+pub const ROWS: [Row; 18] = [
+    (
+        &[LED],
+        0,
+        "safe: 7 events, 3 servers, 1 term with a leader, 0 committed, 0 membership changes\n",
+    ),
+    (
+        &[
+            LED,
+            r#"{"event":"granted","server":2,"term":1,"candidate":1}"#,
+        ],
+        0,
+        "safe: 7 events, 3 servers, 1 term with a leader, 0 committed, 0 membership changes, 1 vote left out\n",
+    ),
+    (
+        &[
+            LED,
+            r#"{"event":"granted","server":2,"term":1,"candidate":3}"#,
+        ],
+        1,
+        "line 9: server 2 votes in term 1 for 3: the candidate has not campaigned in the term\n",
+    ),
+    (
+        &[
+            LED,
+            r#"{"event":"granted","server":2,"term":2,"candidate":3}"#,
+        ],
+        1,
+        "line 9: server 2 votes in term 2 for 3: the candidate's log is not as up to date as the \
+            server's\n  line 8: server 3 campaigns in term 2\n  line 4: leader 1 writes index 2 in term 1\n",
+    ),
+    (
+        &[
+            LED,
+            r#"{"event":"committed","leader":1,"term":1,"index":2}"#,
+        ],
+        1,
+        "line 9: leader 1 commits index 2 in term 1: no quorum has acknowledged the entries\n",
+    ),
+    (
+        &[
+            LED,
+            r#"{"event":"acked","server":2,"term":1,"leader":1,"index":2}
+{"event":"committed","leader":1,"term":1,"index":2}
+
+{"event":"applied","server":2,"index":2}"#,
+        ],
+        0,
+        "safe: 10 events, 3 servers, 1 term with a leader, 1 committed, 0 membership changes\n",
+    ),
+    (
+        &[LED, r#"{"event":"restarted","server":1,"index":1}"#],
+        1,
+        "line 9: server 1 restarts with index 1: the server has lost durable entries\n  line 6: server 1 \
+            acknowledges index 2 to 1 in term 1\n",
+    ),
+    (
+        &[LED, r#"{"event":"restarted","server":1,"index":0}"#],
+        2,
+        "line 9: `restarted` needs the text or number `server`, the number `index`, and a number \
+            `last_term` or none; `index` is `first - 1` or more\n",
+    ),
+    (
+        &[LED, r#"{"event":"applied","server":1,"index":2}"#],
+        1,
+        "line 9: server 1 applies up to index 2: the entries are not known to be committed\n",
+    ),
+    // Server 2 has the entry and has applied it, so it has acknowledged it, and the leader has
+    // committed it.
+    (
+        &[
+            LED,
+            r#"{"event":"applied","server":2,"index":2}
+{"event":"applied","server":1,"index":2}"#,
+        ],
+        0,
+        "safe: 9 events, 3 servers, 1 term with a leader, 1 committed, 0 membership changes, 1 commit \
+            inferred, 1 acknowledgement inferred\n",
+    ),
+    (
+        &[
+            LED,
+            r#"{"event":"acked","server":[2],"term":1,"leader":1,"index":2}"#,
+        ],
+        2,
+        "line 9: `acked` needs the texts or numbers `server` and `leader`, and the numbers `term` \
+            and `index`; `index` is `first - 1` or more\n",
+    ),
+    (
+        &[
+            LED,
+            r#"{"event":"wrote","leader":1,"term":1,"index":3,"content":8,"voters":[[1,2]]}"#,
+        ],
+        1,
+        "line 9: leader 1 writes an entry in term 1: the leader has not committed an own entry and the \
+            config in effect\n",
+    ),
+    (
+        &[
+            LED,
+            r#"{"event":"appended","server":3,"term":2,"leader":3,"index":1}"#,
+        ],
+        1,
+        "line 9: server 3 installs a snapshot up to index 1 of 3 in term 2: the leader is not \
+            elected in the term\n",
+    ),
+    (
+        &[
+            LED,
+            r#"{"event":"appended","server":2,"term":1,"leader":1,"index":2}
+{"event":"acked","server":2,"term":1,"leader":1,"index":2}
+{"event":"committed","leader":1,"term":1,"index":2}"#,
+        ],
+        0,
+        "safe: 10 events, 3 servers, 1 term with a leader, 1 committed, 0 membership changes\n",
+    ),
+    (
+        &[
+            LED,
+            r#"{"event":"appended","server":2,"term":1,"leader":1,"index":3}"#,
+        ],
+        1,
+        "line 9: server 2 installs a snapshot up to index 3 of 1 in term 1: the leader has not \
+            written so many entries\n",
+    ),
+    (
+        &[LED, r#"{"event":"elected"}"#],
+        2,
+        "line 9: there is no event of this name\n",
+    ),
+    (
+        &[LED, "{"],
+        2,
+        "line 9: it is no JSON with a text `event`\n",
+    ),
+    (
+        &[LED, r#"{"event":"started","voters":[[1,2,3]]}"#],
+        2,
+        "line 9: only the first line says how the cluster starts, and this one says another start\n",
+    ),
+];
+
+/// The names of lists, in their order.
+const NAMES: [&str; 3] = ["a", "b", "c"];
+
+/// Lists of lines, which `--` separates, and the status and the answer. Server 1 leads in term 1 by
+/// the vote of server 2.
+const LISTS: [(&str, u8, &str); 10] = [
+    // Each server has its own list.
+    (
+        r#"{"event":"started","voters":[[1,2,3]],"first":2}
+{"event":"campaigned","server":1,"term":1}
+{"event":"wrote","leader":1,"term":1,"index":2,"content":7}
+{"event":"appended","server":1,"term":1,"leader":1,"prev":1,"entries":[[1,7]]}
+{"event":"acked","server":1,"term":1,"leader":1,"index":2}
+{"event":"committed","leader":1,"term":1,"index":2}
+{"event":"applied","server":1,"index":2}
+--
+{"event":"started","voters":[[1,2,3]],"first":2}
+{"event":"granted","server":2,"term":1,"candidate":1}
+{"event":"appended","server":2,"term":1,"leader":1,"prev":1,"entries":[[1,7]]}
+{"event":"acked","server":2,"term":1,"leader":1,"index":2}
+--
+{"event":"started","voters":[[1,2,3]],"first":2}
+{"event":"campaigned","server":3,"term":2}
+"#,
+        0,
+        "safe: 10 events, 3 servers, 1 term with a leader, 1 committed, 0 membership changes\n",
+    ),
+    // The second list waits for a leader of which no line says anything, and the third one for the
+    // second.
+    (
+        r#"{"event":"started","voters":[[1,2,3]]}
+{"event":"campaigned","server":1,"term":1}
+{"event":"wrote","leader":1,"term":1,"content":7}
+{"event":"committed","leader":1,"term":1,"index":1}
+--
+{"event":"granted","server":2,"term":1,"candidate":1}
+{"event":"acked","server":2,"term":4,"leader":3,"index":1}
+{"event":"acked","server":2,"term":1,"leader":1,"index":1}
+--
+{"event":"campaigned","server":3,"term":2}
+"#,
+        1,
+        "b:2: server 2 acknowledges index 1 to 3 in term 4: the leader is not elected in the term\n\
+            a:4: leader 1 commits index 1 in term 1: no quorum has acknowledged the entries\n",
+    ),
+    // No line of a list comes before an earlier one.
+    (
+        r#"{"event":"started","voters":[[1]]}
+--
+{"event":"granted","server":2,"term":1,"candidate":1}
+{"event":"campaigned","server":1,"term":1}
+"#,
+        1,
+        "b:1: server 2 votes in term 1 for 1: the candidate has not campaigned in the term\n",
+    ),
+    // The last line of a list is judged.
+    (
+        r#"{"event":"started","voters":[[1]]}
+--
+{"event":"campaigned","server":1,"term":1}
+{"event":"applied","server":1,"index":1}"#,
+        1,
+        "b:2: server 1 applies up to index 1: the entries are not known to be committed\n",
+    ),
+    // A line that is no event ends the run, whatever other lists have.
+    (
+        r#"{"event":"started","voters":[[1]]}
+{"event":"applied","server":1,"index":1}
+--
+{"event":"campaigned","server":1,"term":1}
+{"event":"elected"}
+"#,
+        2,
+        "b:2: there is no event of this name\n",
+    ),
+    // A process that restarts says the start again.
+    (
+        r#"{"event":"started","voters":[[1,2],[3]]}
+{"event":"started","voters":[[1,2],[3]],"first":1,"pid":7}
+--
+{"event":"campaigned","server":1,"term":1}
+{"first":1,"voters":[[1,2],[3]],"event":"started"}
+"#,
+        0,
+        "safe: 1 event, 3 servers, 0 terms with a leader, 0 committed, 0 membership changes\n",
+    ),
+    (
+        r#"{"event":"started","voters":[[1,2],[3]]}
+--
+{"event":"started","voters":[[1,2],[3]],"first":2}
+"#,
+        2,
+        "b:1: only the first line says how the cluster starts, and this one says another start\n",
+    ),
+    (
+        r#"{"event":"started","voters":[[1,2],[3]]}
+{"event":"started","voters":[[1,2,3]]}
+"#,
+        2,
+        "a:2: only the first line says how the cluster starts, and this one says another start\n",
+    ),
+    // The first line is one of the first list.
+    (
+        r#"{"event":"campaigned","server":1,"term":1}
+--
+{"event":"started","voters":[[1]]}
+"#,
+        2,
+        "a:1: it has to be `started`, with lists of texts or numbers `voters`, a number `first` or none, and `configs`, if it is there, as `appended` or `applied`\n",
+    ),
+    // Lists may be empty.
+    (
+        r#"{"event":"started","voters":[[1]]}
+--
+--
+"#,
+        0,
+        "safe: 0 events, 1 server, 0 terms with a leader, 0 committed, 0 membership changes\n",
+    ),
+];
+
+/// Whether this is the status and the answer to lists of lines.
+fn are_answered(alloc: Global, row: &str, status: u8, answer: &str) -> Result<bool, AllocError> {
+    let mut said = String::new(alloc);
+    let mut lists = Vec::new(alloc);
+    for (i, text) in row.split("--\n").enumerate() {
+        let name = String::from_str(alloc, NAMES.get(i).copied().unwrap_or("more"))?;
+        lists.push(Lines::new(alloc, text.as_bytes(), Some(name)))?;
+    }
+    Ok(
+        run(alloc, &mut lists, Progress::silent(), false, &mut said) == status
+            && said.as_str() == answer,
+    )
+}
+
+#[test]
+fn answers_to_lists(rt: HostRuntime) -> Result<(), Fail> {
+    for (row, status, answer) in &LISTS {
+        assert!(rt; are_answered(rt.alloc(), row, *status, answer)?, "{row}");
+    }
+    Ok(())
+}

@@ -1,0 +1,7 @@
+use Rattle.trace_judge.specs.Inner.Table.{numbering}
+use Rattle.trace_judge.specs.Names.{HasNumber}
+use Rattle.trace_judge.proofs.lemmas.FieldLemmas.{SaySoFar}
+use Rattle.trace_judge.proofs.field.config.Given as goal
+
+abbrev pub invariant-loop-item : goal.invariant-loop-item
+invariant-loop-item l = SaySoFar (HasNumber (numbering l.names)) l.item-items l.item-index l.voters.items

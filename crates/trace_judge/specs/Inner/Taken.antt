@@ -1,0 +1,113 @@
+-- The lines that a judge has taken, and the trace that it keeps of them.
+use Rattle.std.specs.Prelude.{◌≡◌, ℕ, List, [], ◌∷◌, Option, Some, None}
+use Rattle.serde_json.specs.Data.{Data}
+use Rattle.safety_laws.specs.Trace.{AreExact, Tests, TraceEvent}
+use Rattle.safety_laws.specs.Checker.{Keeps, configs_of, counting_of, kept_by}
+use Rattle.safety_laws.specs.declared.checker.counting.ConfigsCount.{ConfigsCount}
+use Rattle.safety_laws.specs.declared.checker.violation.Violation.TheVariants.{Rule as BreaksRule}
+use Rattle.safety_laws.specs.declared.memberships.Memberships.{Memberships}
+use Rattle.trace_judge.specs.Inner.Table.{Extends, IsTable, numbering}
+use Rattle.trace_judge.specs.Inner.Votes.{AreVotesIn}
+use Rattle.trace_judge.specs.Line.{Says}
+use Rattle.trace_judge.specs.Names.{Numbering}
+use Rattle.trace_judge.specs.Run.{Adds, AddsMembership, FillsIn, Held, IsTraceOf, SaysMembership, SaysStart}
+use Rattle.trace_judge.specs.declared.fault.Fault.TheVariants.{Malformed, Refused, Skips}
+use Rattle.trace_judge.specs.declared.fault.Fault.{Fault}
+use Rattle.trace_judge.specs.declared.judge.Judge.{Judge}
+
+-- a line says the start of a judge
+abbrev pub SaysStartOf : List ℕ → Judge → Type 0
+SaysStartOf line judge =
+    SaysStart (numbering judge.names) line (configs_of judge.checker).initial.items judge.first
+    (counting_of judge.checker)
+
+-- a line that says an event says another one too, whose entry holds no membership
+abbrev pub SaysToo : Data → TraceEvent ℕ ℕ ℕ → TraceEvent ℕ ℕ ℕ → Type 0
+SaysToo d e other =
+    (number_of : Numbering) (first : ℕ) → Says number_of first d e
+    → Says number_of first d other × SaysMembership number_of d other None
+
+-- a line is broken: it is no event, it has not the next index of its leader, or it breaks a rule
+abbrev pub IsBroken : Fault → Type 0
+IsBroken Malformed = Unit {0}
+IsBroken (Skips last) = Unit {0}
+IsBroken (Refused (BreaksRule rule)) = Unit {0}
+IsBroken fault = ⊥
+
+module _ (tests : ConfigsCount → Memberships ℕ ℕ → Tests ℕ ℕ ℕ (Option ℕ)) where
+  -- how a judge tests events
+  abbrev pub tests_for : Judge → Tests ℕ ℕ ℕ (Option ℕ)
+  tests_for judge = tests (counting_of judge.checker) (configs_of judge.checker)
+
+  -- a judge keeps the events of a trace, remembers votes of it, and has a table of names
+  pub record KeepsTrace (judge : Judge) (es : List (TraceEvent ℕ ℕ ℕ)) : Type 0 where
+    pub exact : AreExact (tests_for judge)
+    pub table : IsTable judge.names
+    pub keeps : Keeps (tests_for judge) es (kept_by judge.checker)
+    pub votes : AreVotesIn judge.counts.votes.entries es
+
+  -- the memberships that a judge knows of entries
+  abbrev pub held_by : Judge → List Held
+  held_by judge = (configs_of judge.checker).held.items
+
+  -- a judge has taken these lines, the latest first
+  pub record HasTaken (taken : List (List ℕ)) (judge : Judge) : Type 0 where
+    pub trace : List (TraceEvent ℕ ℕ ℕ)
+    pub is_trace : IsTraceOf (numbering judge.names) judge.first taken (held_by judge) trace
+    pub keeps : KeepsTrace judge trace
+
+  -- a judge that has taken no line after the first one
+  abbrev pub IsStarted : List ℕ → Judge → Type 0
+  IsStarted line judge = SaysStartOf line judge × HasTaken [] judge
+
+  -- a judge goes on with the same first membership and the same first index, names keep their numbers, and
+  -- configs count as before
+  abbrev pub GoesOn : Judge → Judge → Type 0
+  GoesOn old new =
+      ((configs_of new.checker).initial ≡ (configs_of old.checker).initial) × (new.first ≡ old.first)
+      × Extends (numbering old.names) (numbering new.names)
+      × (counting_of new.checker ≡ counting_of old.checker)
+
+  -- a judge takes one line more
+  abbrev pub Takes : List ℕ → Judge → Judge → Type 0
+  Takes line old new =
+      GoesOn old new
+      × ((taken : List (List ℕ)) → HasTaken taken old → HasTaken (line ∷ taken) new)
+
+  -- a judge takes no line: what it had taken, it still has taken
+  abbrev pub Refuses : Judge → Judge → Type 0
+  Refuses old new = GoesOn old new × ((taken : List (List ℕ)) → HasTaken taken old → HasTaken taken new)
+
+  -- if a judge keeps the events of a trace, it then keeps those of another, which this relates to the
+  -- first, and it knows the membership more, if there is one
+  abbrev pub KeepsMore : (List (TraceEvent ℕ ℕ ℕ) → List (TraceEvent ℕ ℕ ℕ) → Type 0) → Option Held → Judge → Judge
+      → Type 0
+  KeepsMore P m old new =
+      GoesOn old new
+      × ((es : List (TraceEvent ℕ ℕ ℕ)) → KeepsTrace old es
+      → (after : List (TraceEvent ℕ ℕ ℕ)) × P es after
+      × AddsMembership m (held_by old) (held_by new) × KeepsTrace new after)
+
+  -- a judge keeps the same events
+  abbrev pub Stays : Judge → Judge → Type 0
+  Stays old new = KeepsMore (λ es after. after ≡ es) None old new
+
+  -- a judge fills in events
+  abbrev pub Fills : Judge → Judge → Type 0
+  Fills old new = KeepsMore FillsIn None old new
+
+  -- a judge takes one event more, whose entry holds the membership, if there is one
+  abbrev pub TakesEvent : TraceEvent ℕ ℕ ℕ → Option Held → Judge → Judge → Type 0
+  TakesEvent e m old new = KeepsMore (Adds e) m old new
+
+  -- a judge takes one event more, whose entry holds this membership or an equal one, as a line says it
+  abbrev pub TakesHolding : TraceEvent ℕ ℕ ℕ → Held → Judge → Judge → Type 0
+  TakesHolding e m old new =
+      (number_of : Numbering) (d : Data) → SaysMembership number_of d e (Some m)
+      → (n : Held) × SaysMembership number_of d e (Some n) × TakesEvent e (Some n) old new
+
+  -- a judge takes the event that a line says
+  abbrev pub TakesSaid : Data → Judge → Judge → Type 0
+  TakesSaid d old new =
+      (e : TraceEvent ℕ ℕ ℕ) × ((m : Option Held) × Says (numbering old.names) old.first d e
+      × SaysMembership (numbering old.names) d e m × TakesEvent e m old new)

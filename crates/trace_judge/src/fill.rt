@@ -1,0 +1,243 @@
+//! Events that no line says, but that the checker needs.
+ghost use Rattle.std.specs.Prelude.{OnOk};
+ghost use Rattle.safety_laws.specs.Checker.{event_of as trace_event};
+ghost use Rattle.trace_judge.specs.Inner.Taken.{Fills};
+ghost use Rattle.trace_judge.specs.Numbers.{number_tests};
+ghost use Rattle.trace_judge.specs.Run.{IsFilledIn};
+
+use crate::counted::counted_before;
+use crate::event::{Act, counted_at, taken_from};
+use crate::field::{event_name, id, len, number};
+use crate::followed::{Followed, KEPT};
+use crate::judge::Judge;
+use safety_laws::checker::Violation;
+use safety_laws::event::Event;
+use serde_json::Value;
+use std::alloc::{AllocError, Global};
+
+/// How many of the newest candidates, and then of the newest leaders that have written entries, are
+/// tried as the one whose entries a server has read from its disk.
+const TRIED: usize = 64;
+
+impl Judge {
+    /// Fills in the events that a line needs, as far as they are allowed, if any may be filled in.
+    ///
+    /// # Errors
+    ///
+    /// Out of memory.
+    pub fn fill_in(&mut self, alloc: Global, fills: bool, value: &Value) -> Result<(), AllocError>
+        ensures { OnOk result (Fills number_tests self.old self.new) }
+    {
+        if !fills {
+            return Ok(());
+        }
+        match event_name(value).unwrap_or("") {
+            "applied" => self.fill_in_commit(value),
+            "restarted" => self.fill_in_append(alloc, value),
+            _ => Ok(()),
+        }
+    }
+
+    /// Fills in that a leader commits what a server has applied. It is one of the last leaders that
+    /// the server has followed.
+    fn fill_in_commit(&mut self, value: &Value) -> Result<(), AllocError>
+        ensures { OnOk result (Fills number_tests self.old self.new) }
+    {
+        let Some(server) = id(&self.names, value, "server") else {
+            return Ok(());
+        };
+        let Some(len) = len(value, "index", self.first) else {
+            return Ok(());
+        };
+        if len <= self.counts.committed {
+            return Ok(());
+        }
+        if self.commit(server, len)? {
+            return Ok(());
+        }
+        // The server has read the entries from its disk, and crashed before it acknowledged them.
+        if self.acknowledge(server, len)? {
+            self.commit(server, len)?;
+        }
+        Ok(())
+    }
+
+    /// Commits so many first entries by the last leader which a server has followed that may commit
+    /// them. Returns whether there is one.
+    fn commit(&mut self, server: u64, len: usize) -> Result<bool, AllocError>
+        ensures { OnOk result (Fills number_tests self.old self.new) }
+    {
+        for number in 0..KEPT {
+            let Some(followed) = self.followers.last(server, number) else {
+                return Ok(false);
+            };
+            if self.commit_by(followed.term, followed.leader, len)? {
+                return Ok(true);
+            }
+        }
+        Ok(false)
+    }
+
+    /// Commits so many first entries of a leader, and more until an entry of its term is the last
+    /// one, if that is allowed. Returns whether it is.
+    fn commit_by(&mut self, term: u64, leader: u64, len: usize) -> Result<bool, AllocError>
+        ensures { OnOk result (Fills number_tests self.old self.new) }
+    {
+        let Some(start) = self.checker.leader_start(term, leader) else {
+            return Ok(false);
+        };
+        let own_len = len.max(start.saturating_add(1));
+        let Some(last) = counted_at(&self.checker, term, leader, own_len) else {
+            return Ok(false);
+        };
+        if self.commit_at(term, leader, own_len, last)? {
+            return Ok(true);
+        }
+        match counted_before(&self.checker, term, leader, own_len) {
+            Some(before) => self.commit_at(term, leader, own_len, before),
+            None => Ok(false),
+        }
+    }
+
+    /// Commits so many first entries of a leader, which counts by so many of them, if that is
+    /// allowed. Returns whether it is.
+    fn commit_at(
+        &mut self,
+        term: u64,
+        leader: u64,
+        len: usize,
+        counted_at: usize,
+    ) -> Result<bool, AllocError>
+        ensures { OnOk result (Fills number_tests self.old self.new) }
+    {
+        let event = Event::Committed {
+            leader,
+            term,
+            len,
+            counted_at,
+        };
+        self.add(&event)
+    }
+
+    /// Acknowledges so many first entries to the last leader which a server has followed that they
+    /// may be acknowledged to. Returns whether there is one.
+    fn acknowledge(&mut self, server: u64, len: usize) -> Result<bool, AllocError>
+        ensures { OnOk result (Fills number_tests self.old self.new) }
+    {
+        for number in 0..KEPT {
+            let Some(followed) = self.followers.last(server, number) else {
+                return Ok(false);
+            };
+            if self.acknowledge_to(server, followed, len)? {
+                return Ok(true);
+            }
+        }
+        Ok(false)
+    }
+
+    /// Acknowledges so many first entries to a leader, if they are not acknowledged yet, and if
+    /// that is allowed. Returns whether it is.
+    fn acknowledge_to(
+        &mut self,
+        server: u64,
+        followed: Followed,
+        len: usize,
+    ) -> Result<bool, AllocError>
+        ensures { OnOk result (Fills number_tests self.old self.new) }
+    {
+        if len <= followed.acked {
+            return Ok(false);
+        }
+        let event = Event::Acked {
+            server,
+            term: followed.term,
+            leader: followed.leader,
+            len,
+        };
+        self.add(&event)
+    }
+
+    /// Fills in that a server has taken the entries that it has read from its disk, if its log does
+    /// not end so. They are of the newest leader that has them.
+    fn fill_in_append(&mut self, alloc: Global, value: &Value) -> Result<(), AllocError>
+        ensures { OnOk result (Fills number_tests self.old self.new) }
+    {
+        let Some(server) = id(&self.names, value, "server") else {
+            return Ok(());
+        };
+        let Some(len) = len(value, "index", self.first) else {
+            return Ok(());
+        };
+        let Some(last_term) = number(value, "last_term") else {
+            return Ok(());
+        };
+        if len == 0 || self.has_entry(server, len, last_term) {
+            return Ok(());
+        }
+        for number in 0..2 * TRIED {
+            let Some((term, leader)) = self.tried_leader(number) else {
+                return Ok(());
+            };
+            if self.append_from(alloc, server, term, leader, len, last_term)? {
+                return Ok(());
+            }
+        }
+        Ok(())
+    }
+
+    /// Returns the term and the id of a leader whose entries a server may have read from its disk.
+    fn tried_leader(&self, number: usize) -> Option<(u64, u64)> {
+        match number.checked_sub(TRIED) {
+            Some(written) => self.counts.newest_leader(written),
+            None => self.checker.newest_leader(number),
+        }
+    }
+
+    /// Whether so many first entries of a server end with an entry of a term.
+    pub fn has_entry(&self, server: u64, len: usize, last_term: u64) -> bool {
+        match self.checker.server_entry(server, len) {
+            Some(entry) => entry.term == last_term,
+            None => false,
+        }
+    }
+
+    /// Appends so many first entries of a leader, if they end with an entry of a term, and if that
+    /// is allowed. Returns whether it is.
+    fn append_from(
+        &mut self,
+        alloc: Global,
+        server: u64,
+        term: u64,
+        leader: u64,
+        len: usize,
+        last_term: u64,
+    ) -> Result<bool, AllocError>
+        ensures { OnOk result (Fills number_tests self.old self.new) }
+    {
+        match self.checker.leader_entry(term, leader, len) {
+            Some(entry) if entry.term == last_term => {}
+            _ => return Ok(false),
+        }
+        match taken_from(alloc, &self.checker, server, term, leader, len)? {
+            Some(event) => self.add(&event),
+            None => Ok(false),
+        }
+    }
+
+    /// Records an event that no line says, if it is allowed. Returns whether it is.
+    fn add(&mut self, event: &Act) -> Result<bool, AllocError>
+        ensures { OnOk result
+            (IsFilledIn (trace_event event.now) → Fills number_tests self.old self.new) }
+    {
+        match self.checker.record(event) {
+            Ok(()) => {
+                self.counts.note_filled_in(event);
+                self.followers.note_event(event)?;
+                self.chart.note(event)?;
+                Ok(true)
+            }
+            Err(Violation::Rule(_)) => Ok(false),
+            Err(Violation::OutOfMemory) => Err(AllocError),
+        }
+    }
+}

@@ -1,0 +1,368 @@
+//! Judges a recorded run, which is one list of lines or several.
+ghost use Rattle.std.specs.Prelude.{◌≡◌, ◌*◌, ◌<◌, ◌≤◌, [], ◌∷◌, ℕ, List, IfErr, IfOk, IsTrue, OnOk, Some, map};
+ghost use Rattle.std.specs.List.{All};
+ghost use Rattle.trace_judge.specs.Inner.Judged.{Begins, Judges, JudgesNext, JudgesSome};
+ghost use Rattle.trace_judge.specs.Inner.Taken.{IsBroken};
+ghost use Rattle.trace_judge.specs.Input.{lines_left};
+ghost use Rattle.trace_judge.specs.Lists.{AreSafe};
+ghost use Rattle.trace_judge.specs.Numbers.{number_tests};
+ghost use Rattle.trace_judge.specs.Run.{SafeRun};
+
+use crate::chart::Chart;
+use crate::facts::Place;
+use crate::fault::Fault;
+use crate::input::Lines;
+use crate::judge::{Judge, start};
+use crate::progress::Progress;
+use crate::start::say_one_start;
+use crate::text::{push_fault, push_safe};
+use crate::why::push_why;
+use safety_laws::laws::{applied_traces_are_executions, traces_are_executions};
+use std::alloc::{AllocError, Global};
+use std::io::{self, BufRead};
+
+/// Why a run is judged no further.
+#[derive(Drop)]
+enum Stop {
+    /// A line is no event, or there is no memory for it.
+    Line(Fault),
+    /// The input cannot be read.
+    Input(io::Error),
+}
+
+impl From<Fault> for Stop {
+    fn from(fault: Fault) -> Stop {
+        Stop::Line(fault)
+    }
+}
+
+impl From<io::Error> for Stop {
+    fn from(error: io::Error) -> Stop {
+        Stop::Input(error)
+    }
+}
+
+impl From<AllocError> for Stop {
+    fn from(error: AllocError) -> Stop {
+        Stop::Line(Fault::from(error))
+    }
+}
+
+/// Judges lists of lines, and writes the answer, after a chart of the run if that is wanted. The
+/// order of each list is kept, and no order between the lists is known.
+///
+/// Returns the exit status: 0 if the run is safe, 1 if the next line of each list breaks a rule, 2
+/// if a line is no event, and 3 if an input cannot be read, or if there is no memory. The answer is
+/// empty if there is no memory to write it.
+pub fn run<B: BufRead>(
+    alloc: Global,
+    lists: &mut [Lines<B>],
+    progress: Progress,
+    is_drawn: bool,
+    answer: &mut String,
+) -> u8
+    ensures safe { result ≡ 0 → AreSafe number_tests (map (lines_left B.remaining) lists.old) }
+    ensures alone { result ≡ 0 → (lines : List (List ℕ)) →
+        map (lines_left B.remaining) lists.old ≡ Some lines ∷ [] → SafeRun number_tests lines }
+{
+    match judge_lists(alloc, lists, progress, is_drawn, answer) {
+        Ok(status) => status,
+        Err(AllocError) => {
+            answer.clear();
+            3
+        }
+    }
+}
+
+/// Judges lists of lines, of which the first one begins with the line that says how the cluster
+/// starts.
+fn judge_lists<B: BufRead>(
+    alloc: Global,
+    lists: &mut [Lines<B>],
+    progress: Progress,
+    is_drawn: bool,
+    answer: &mut String,
+) -> Result<u8, AllocError>
+    ensures { IfOk result (λ status. status ≡ 0 →
+        AreSafe number_tests (map (lines_left B.remaining) lists.old)) }
+{
+    traces_are_executions::<u64, u64, u64, Option<u64>>();
+    applied_traces_are_executions::<u64, u64, u64, Option<u64>>();
+    let (first_line, mut judge) = match begin(alloc, lists, is_drawn) {
+        Ok(begun) => begun,
+        Err(stop) => return push_stop(alloc, answer, None, lists, 0, stop),
+    };
+    match take_lines(alloc, &first_line, lists, &mut judge, progress) {
+        Ok(()) => push_verdict(alloc, answer, lists, &mut judge),
+        Err((at, stop)) => push_stop(alloc, answer, Some(&judge.chart), lists, at, stop),
+    }
+}
+
+/// Takes the first line of the first list. Returns this line, and the judge of a cluster that
+/// starts as it says.
+fn begin<B: BufRead>(
+    alloc: Global,
+    lists: &mut [Lines<B>],
+    is_drawn: bool,
+) -> Result<(Vec<u8>, Judge), Stop>
+    ensures { IfOk result (λ b. Begins number_tests (map (lines_left B.remaining) lists.old)
+        (map (lines_left B.remaining) lists.new) b.0.items b.1) }
+{
+    if lists.is_empty() {
+        return Err(Stop::Line(Fault::Malformed));
+    }
+    let is_alone = lists.len() == 1;
+    let first = &mut lists[0];
+    if !first.has_next()? {
+        return Err(Stop::Line(Fault::Malformed));
+    }
+    let line = first.line.as_slice().to_vec(alloc)?;
+    let judge = start(alloc, &line, is_drawn, is_alone)?;
+    first.pass();
+    Ok((line, judge))
+}
+
+/// Takes lines of the lists, until the next line of each list is refused, or all lists are at their
+/// end.
+///
+/// After a line that is taken, the next one is of the same list. After one that is refused, it is
+/// of the next list. Events are filled in only if the next line of each list is refused without
+/// them.
+///
+/// # Errors
+///
+/// Why a list is judged no further, with the place of this list.
+fn take_lines<B: BufRead>(
+    alloc: Global,
+    first_line: &[u8],
+    lists: &mut [Lines<B>],
+    judge: &mut Judge,
+    mut progress: Progress,
+) -> Result<(), (usize, Stop)>
+    ensures { OnOk result (JudgesSome number_tests first_line.now (map (lines_left B.remaining) lists.old)
+        (map (lines_left B.remaining) lists.new) judge.old judge.new) }
+{
+    let mut at = 0;
+    let mut refused = 0;
+    for _ in 0..u64::MAX {
+        if refused >= tries(lists.len()) {
+            return Ok(());
+        }
+        let fills = may_fill_in(refused, lists.len());
+        if at >= lists.len() {
+            at = 0;
+        }
+        let is_taken = match take_next(alloc, first_line, at, fills, &mut lists[at], judge) {
+            Ok(is_taken) => is_taken,
+            Err(stop) => return Err((at, stop)),
+        };
+        if is_taken {
+            refused = 0;
+            progress.note();
+        } else {
+            refused += 1;
+            at += 1;
+        }
+    }
+    Err((at, Stop::from(AllocError)))
+}
+
+/// Returns how many lines in a row are refused before a run is judged no further. If there are
+/// several lists, the next line of each is tried twice.
+fn tries(lists: usize) -> usize
+    ensures { result ≤ 2 * lists }
+{
+    if lists > 1 {
+        lists.saturating_mul(2)
+    } else {
+        lists
+    }
+}
+
+/// Whether events may be filled in for the next line, after so many lines in a row were refused. If
+/// there are several lists, a line of another list may say what the next line lacks, so that is
+/// tried first.
+fn may_fill_in(refused: usize, lists: usize) -> bool {
+    lists <= 1 || refused >= lists
+}
+
+/// Takes the next line of a list, if it is allowed. Returns whether a line was taken.
+fn take_next<B: BufRead>(
+    alloc: Global,
+    first_line: &[u8],
+    number: usize,
+    fills: bool,
+    list: &mut Lines<B>,
+    judge: &mut Judge,
+) -> Result<bool, Stop>
+    ensures { OnOk result (JudgesNext number_tests first_line.now (lines_left B.remaining list.old)
+        (lines_left B.remaining list.new) judge.old judge.new) }
+{
+    if !list.has_next()? {
+        return Ok(false);
+    }
+    let place = Place {
+        list: number,
+        line: list.number,
+    };
+    match take_line(alloc, first_line, place, fills, &list.line, judge) {
+        Ok(()) => {
+            list.pass();
+            Ok(true)
+        }
+        Err(fault) if fault.is_broken() => {
+            list.refuse(judge.counts.events, fault);
+            Ok(false)
+        }
+        Err(fault) => Err(Stop::Line(fault)),
+    }
+}
+
+/// Takes a line after the first one. A line that says again how the cluster starts says no event.
+fn take_line(
+    alloc: Global,
+    first_line: &[u8],
+    place: Place,
+    fills: bool,
+    line: &[u8],
+    judge: &mut Judge,
+) -> Result<(), Fault>
+    ensures taken { OnOk result (Judges number_tests first_line.now (line.now ∷ []) judge.old judge.new) }
+    ensures broken { IfErr result (λ fault. IsBroken fault →
+        Judges number_tests first_line.now [] judge.old judge.new) }
+{
+    match judge.take(alloc, place, fills, line) {
+        Ok(()) => Ok(()),
+        Err(Fault::Malformed) => {
+            if say_one_start(alloc, first_line, line)? {
+                Ok(())
+            } else {
+                Err(Fault::Malformed)
+            }
+        }
+        Err(fault) => Err(fault),
+    }
+}
+
+/// Whether all lists are at their end.
+fn are_ended<B: BufRead>(lists: &[Lines<B>]) -> bool
+    ensures { IsTrue result → All (λ list. lines_left B.remaining list ≡ Some []) lists.now }
+{
+    for list in lists {
+        if !list.is_ended() {
+            return false;
+        }
+    }
+    true
+}
+
+/// Writes the chart, and then that the run is safe if all lists are at their end, or the lines that
+/// they wait with. Returns the exit status.
+fn push_verdict<B: BufRead>(
+    alloc: Global,
+    answer: &mut String,
+    lists: &[Lines<B>],
+    judge: &mut Judge,
+) -> Result<u8, AllocError>
+    ensures { IfOk result (λ status. status ≡ 0 →
+        All (λ list. lines_left B.remaining list ≡ Some []) lists.now) }
+{
+    if !are_ended(lists) {
+        judge.chart.push_refused_to(answer)?;
+        return push_waiting(alloc, answer, lists, judge);
+    }
+    judge.chart.push_to(answer)?;
+    push_safe(alloc, answer, judge)?;
+    Ok(0)
+}
+
+/// Writes the line that each list waits with, why, and which line it contradicts. The list that
+/// waits longest comes first. Returns the exit status.
+fn push_waiting<B>(
+    alloc: Global,
+    answer: &mut String,
+    lists: &[Lines<B>],
+    judge: &Judge,
+) -> Result<u8, AllocError>
+    ensures { IfOk result (λ status. 0 < status) }
+{
+    let longest = longest_waiting(lists);
+    for (i, list) in lists.iter().enumerate() {
+        if i == longest {
+            push_wait(alloc, answer, lists, judge, list)?;
+        }
+    }
+    for (i, list) in lists.iter().enumerate() {
+        if i != longest {
+            push_wait(alloc, answer, lists, judge, list)?;
+        }
+    }
+    Ok(1)
+}
+
+/// Returns the place of the list that waits longest, the first one of several.
+fn longest_waiting<B>(lists: &[Lines<B>]) -> usize {
+    let mut longest = 0;
+    let mut since = u64::MAX;
+    for (i, list) in lists.iter().enumerate() {
+        if let Some(wait) = list.wait
+            && wait.since < since
+        {
+            longest = i;
+            since = wait.since;
+        }
+    }
+    longest
+}
+
+/// Writes the line that a list waits with, why, and which line it contradicts, if it waits.
+fn push_wait<B>(
+    alloc: Global,
+    answer: &mut String,
+    lists: &[Lines<B>],
+    judge: &Judge,
+    list: &Lines<B>,
+) -> Result<(), AllocError> {
+    if let Some(wait) = list.wait {
+        list.push_place(answer)?;
+        push_fault(alloc, answer, &list.line, false, wait.fault)?;
+        push_why(alloc, answer, lists, judge, &list.line, wait.fault)?;
+    }
+    Ok(())
+}
+
+/// Writes the chart, if there is one, and why the list at a place is judged no further. Returns the
+/// exit status.
+fn push_stop<B>(
+    alloc: Global,
+    answer: &mut String,
+    chart: Option<&Chart>,
+    lists: &[Lines<B>],
+    at: usize,
+    stop: Stop,
+) -> Result<u8, AllocError>
+    ensures { IfOk result (λ status. 0 < status) }
+{
+    let Some(list) = lists.get(at) else {
+        return Ok(3);
+    };
+    if let Some(chart) = chart {
+        chart.push_to(answer)?;
+    }
+    match stop {
+        Stop::Line(fault) => {
+            list.push_place(answer)?;
+            push_fault(
+                alloc,
+                answer,
+                &list.line,
+                at == 0 && list.number == 1,
+                fault,
+            )
+        }
+        Stop::Input(error) => {
+            writeln!(answer, "{}: {error}", list.name())?;
+            Ok(3)
+        }
+    }
+}

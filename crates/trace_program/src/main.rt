@@ -1,0 +1,106 @@
+//! Judges a recorded run of a Raft cluster: one event a line, as JSON.
+#![tactic(auto)]
+
+mod words;
+
+use clap::ArgMatches;
+use std::alloc::AllocError;
+use std::fs::File;
+use std::io::{BufReader, Read, Stdin};
+use std::process::ExitCode;
+use std::{env, io};
+use trace_judge::{Lines, Progress, run};
+
+/// Where lines come from.
+#[derive(Drop)]
+enum Source {
+    /// Standard input.
+    Input(Stdin),
+    /// A file.
+    File(File),
+}
+
+impl Read for Source {
+    fn read(&mut self, buf: &mut [u8]) -> io::Result<usize> {
+        match self {
+            Source::Input(input) => input.read(buf),
+            Source::File(file) => file.read(buf),
+        }
+    }
+}
+
+/// The lines of a source, which is read ahead.
+type SourceLines = Lines<BufReader<Source>>;
+
+fn main(rt: HostRuntime) -> ExitCode {
+    match run_words(&rt) {
+        Ok(status) => ExitCode::from(status),
+        Err(error) => {
+            // If standard error is closed, the status says enough.
+            let _ = eprintln!(rt; "raft_trace: {error}");
+            ExitCode::from(3)
+        }
+    }
+}
+
+/// Does what the command line asks for. Returns the exit status.
+fn run_words(rt: &HostRuntime) -> io::Result<u8> {
+    let words: Vec<String> = env::args(rt)?.collect(rt.alloc())?;
+    match words::parsed(rt.alloc(), words.as_slice()) {
+        Ok(matches) => judge_files(rt, &matches),
+        Err(error) => {
+            error.print(rt)?;
+            Ok(words::status_of(&error))
+        }
+    }
+}
+
+/// Judges the files that the command line names, or standard input if there is none. Returns the
+/// exit status.
+fn judge_files(rt: &HostRuntime, matches: &ArgMatches<'_>) -> io::Result<u8> {
+    let mut lists = Vec::new(rt.alloc());
+    for file in matches.get_strs(words::FILES).unwrap_or(&[]) {
+        match source_of(rt, file) {
+            Ok(source) => {
+                let name = String::from_str(rt.alloc(), file)?;
+                lists.push(lines_of(rt, source, Some(name))?)?;
+            }
+            Err(error) => {
+                let _ = eprintln!(rt; "raft_trace: {file}: {error}");
+                return Ok(2);
+            }
+        }
+    }
+    if lists.is_empty() {
+        lists.push(lines_of(rt, Source::Input(rt.stdin()), None)?)?;
+    }
+    judge_lists(rt, &mut lists, matches.get_flag(words::CHART))
+}
+
+/// Opens the source that a word of the command line names.
+fn source_of(rt: &HostRuntime, word: &str) -> io::Result<Source> {
+    if word == "-" {
+        Ok(Source::Input(rt.stdin()))
+    } else {
+        Ok(Source::File(File::open(rt, word)?))
+    }
+}
+
+/// Returns the lines of a source.
+fn lines_of(rt: &HostRuntime, source: Source, name: Option<String>) -> io::Result<SourceLines> {
+    let input = BufReader::new(rt.alloc(), source)?;
+    Ok(Lines::new(rt.alloc(), input, name))
+}
+
+/// Judges lists of lines, and prints the answer, after a chart if that is wanted. Returns the exit
+/// status.
+fn judge_lists(rt: &HostRuntime, lists: &mut [SourceLines], is_drawn: bool) -> io::Result<u8> {
+    let mut answer = String::new(rt.alloc());
+    let progress = Progress::on(rt.stderr());
+    let status = run::run(rt.alloc(), lists, progress, is_drawn, &mut answer);
+    if answer.is_empty() {
+        return Err(io::Error::from(AllocError));
+    }
+    rt.print(answer.as_str())?;
+    Ok(status)
+}
