@@ -3,10 +3,10 @@
 use crate::deed::Deed;
 use crate::fault::Fault;
 use crate::server::{Role, Server};
-use crate::types::{ChangeMembers, Entry, LogId, Members, Payload, end};
-use raft_handlers::HandlerError;
+use crate::types::{ChangeMembers, Entry, Leader, LogId, Members, Payload, end};
 use std::collections::BTreeSet;
 use std::slice;
+use steps_handlers::HandlerError;
 
 impl Server {
     /// Whether a planted fault lets it acknowledge entries up to a log id without taking them.
@@ -16,6 +16,15 @@ impl Server {
             (Some(Fault::KeepConflicts), Some(last)) => {
                 last.index < end(self.last()) && !self.has(last)
             }
+            _ => false,
+        }
+    }
+
+    /// Whether a planted fault lets it commit what a leader's quorum has, without a test.
+    pub fn commits_wrongly(&self, leader: &Leader) -> bool {
+        match self.fault {
+            Some(Fault::CommitEarlierTerm) => true,
+            Some(Fault::CountOldMembers) => leader.has_own_granted(),
             _ => false,
         }
     }

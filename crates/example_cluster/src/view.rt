@@ -5,9 +5,9 @@ use crate::record::Entry;
 use crate::server::{Role, Server};
 use crate::trace::{Said, Trace, View};
 use crate::types::{Members, Payload, end};
-use raft_handlers::Outcome;
-use raft_safety::checker::Violation;
+use safety_laws::checker::Violation;
 use std::alloc::{AllocError, Global};
+use steps_handlers::Outcome;
 
 /// The number of the first membership: no command has a number that is as great.
 const FIRST_MEMBERSHIP: u64 = 1_000_000_000_000;

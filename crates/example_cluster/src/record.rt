@@ -5,9 +5,9 @@
 //! index is a number of first entries.
 
 use crate::types::CommittedLeaderId;
-use raft_safety::entry::Entry as LawEntry;
-use raft_safety::event::Event;
-use raft_safety::term::Term as _;
+use safety_laws::entry::Entry as LawEntry;
+use safety_laws::event::Event;
+use safety_laws::term::Term as _;
 use std::alloc::{AllocError, Global};
 use std::collections::BTreeMap;
 

@@ -5,10 +5,10 @@ use crate::fault::Fault;
 use crate::message::Content;
 use crate::types::{Candidate, CommittedLeaderId, Entry, Leader, LogId, Members, State, Vote};
 use raft_base::LogStateReader;
-use raft_handlers::{HandlerError, may_lead, start_cluster};
 use rand::RngExt;
 use rand_pcg::Pcg32;
 use std::alloc::{AllocError, Global};
+use steps_handlers::{HandlerError, may_lead, start_cluster};
 
 /// How many servers there are. The first three are the first voters.
 pub const SERVERS: u64 = 5;
@@ -38,6 +38,8 @@ pub struct Server {
     /// How often it has led on without an election. Like its vote it is on disk.
     pub resumptions: u64,
     pub state: State,
+    /// The vote on its disk.
+    pub disk_vote: Vote,
     /// The entries of its log that are not purged, as they are on its disk.
     pub disk: Vec<Entry>,
     /// What it has done in this event.
@@ -65,6 +67,7 @@ impl Server {
             term: 0,
             resumptions: 0,
             state: State::try_default(alloc)?,
+            disk_vote: Vote::default(),
             disk: Vec::new(alloc),
             deed: None,
             random: Pcg32::new(seed, id),
@@ -172,12 +175,14 @@ impl Server {
         }
     }
 
-    /// Takes note of a vote. If the vote is greater than its own, the server promises it and
-    /// follows.
+    /// Takes note of a vote. If the vote is greater than its own, the server promises it, writes it
+    /// to disk and follows.
     pub fn hear_of(&mut self, vote: Vote) {
         self.term = self.term.max(vote.leader_id.get_term());
-        if vote > self.vote() {
-            self.state.promise(vote);
+        if vote > self.vote() && self.state.promise(vote) {
+            if self.fault != Some(Fault::UnwrittenVote) {
+                self.write_vote();
+            }
             self.follow();
         }
     }

@@ -13,9 +13,9 @@ use crate::trace::{Said, Trace};
 use crate::types::{ChangeMembers, Members};
 use crate::view::said_by;
 use raft_base::EmptyNode;
-use raft_safety::check::Refused;
 use rand::RngExt;
 use rand_pcg::Pcg32;
+use safety_laws::check::Refused;
 use std::alloc::{AllocError, Global};
 use std::collections::{BTreeMap, BTreeSet};
 

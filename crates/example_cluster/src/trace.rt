@@ -1,13 +1,13 @@
 //! What the servers do, recorded in the words of the laws of safety.
 //!
-//! `raft_safety` proves: if each recorded act was allowed by those before it, the cluster is safe.
+//! `safety_laws` proves: if each recorded act was allowed by those before it, the cluster is safe.
 //! Its checker says whether they were. A log of the laws has no entry 0, which starts the cluster.
 
 use crate::record::{Act, Entry, Record, Term};
-use raft_safety::check::Refused;
-use raft_safety::checker::{Checker, LearnError, Violation};
-use raft_safety::event::Event as LawEvent;
-use raft_safety::memberships::Memberships;
+use safety_laws::check::Refused;
+use safety_laws::checker::{Checker, LearnError, Violation};
+use safety_laws::event::Event as LawEvent;
+use safety_laws::memberships::Memberships;
 use std::alloc::{AllocError, Global};
 
 /// What a server has said or done that its state does not show.

@@ -3,10 +3,10 @@
 use crate::server::{Role, Server};
 use crate::types::{CommittedLeaderId, LogId, end};
 use raft_base::LogStateReader;
-use raft_handlers::HandlerError;
-use raft_safety::checker;
+use safety_laws::checker;
 use std::alloc::{AllocError, Global};
 use std::collections::BTreeMap;
+use steps_handlers::HandlerError;
 use thiserror::Error;
 
 /// What is wrong with a cluster.

@@ -6,7 +6,7 @@ use crate::fault::Fault;
 use crate::server::Server;
 use crate::types::{Changes, Entry, SnapshotMeta, State, Vote, end};
 use raft_base::LogStateReader;
-use raft_handlers::{HandlerError, RestartError, SnapshotChanges, Stored, restart_server};
+use steps_handlers::{HandlerError, RestartError, SnapshotChanges, Stored, restart_server};
 
 impl Server {
     /// Returns the place of an index on disk.
@@ -20,16 +20,24 @@ impl Server {
         (self.state.get_log_id(index) == Some(entry.log_id)).then_some(entry)
     }
 
+    /// Writes the vote to disk. Each step that changes the vote does so before a message leaves.
+    pub fn write_vote(&mut self) {
+        self.disk_vote = self.vote();
+    }
+
     /// Writes to disk what a request with these entries has changed in the log: removes what is
     /// truncated, and adds the entries that are new.
     pub fn write(&mut self, entries: &[Entry], changes: &Changes) -> Result<(), HandlerError> {
-        if let Some(index) = changes.truncated_from {
-            let kept = self.place(index);
+        let Some(from) = changes.log_from else {
+            return Ok(());
+        };
+        let kept = self.place(from);
+        if kept < self.disk.len() {
             self.deed = Some(Deed::Truncates(self.disk.len().saturating_sub(kept)));
             self.disk.truncate(kept);
         }
-        let (_, new) = entries.split_at(entries.len().saturating_sub(changes.new));
-        self.disk.extend_with_clones(new)?;
+        let known = entries.partition_point(|entry| entry.log_id.index < from);
+        self.disk.extend_with_clones(entries.split_at(known).1)?;
         Ok(())
     }
 
@@ -84,7 +92,7 @@ impl Server {
     /// Crashes, and starts again with what is on disk. If the server is the elected leader of its
     /// vote, it leads on.
     pub fn restart(&mut self) -> Result<(), HandlerError> {
-        let mut vote = self.vote();
+        let mut vote = self.disk_vote;
         if self.fault == Some(Fault::ForgetVote) {
             vote = Vote::default();
             self.term = 0;

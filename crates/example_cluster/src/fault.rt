@@ -14,6 +14,8 @@ pub enum Fault {
     CountRefusal,
     /// A server forgets its vote when it restarts.
     ForgetVote,
+    /// A server does not write a vote that it hears to disk.
+    UnwrittenVote,
     /// A follower acknowledges entries that conflict with its log, and keeps its own.
     KeepConflicts,
     /// A follower acknowledges some entries that it has not written.
@@ -31,7 +33,7 @@ pub enum Fault {
 }
 
 /// Each fault, with its name on the command line and what `--help` says of it.
-pub const FAULTS: [(Fault, &str, &str); 12] = [
+pub const FAULTS: [(Fault, &str, &str); 13] = [
     (
         Fault::CommitEarlierTerm,
         "CommitEarlierTerm",
@@ -56,6 +58,11 @@ pub const FAULTS: [(Fault, &str, &str); 12] = [
         Fault::ForgetVote,
         "ForgetVote",
         "a server forgets its vote when it restarts",
+    ),
+    (
+        Fault::UnwrittenVote,
+        "UnwrittenVote",
+        "a server does not write a vote that it hears to disk",
     ),
     (
         Fault::KeepConflicts,

@@ -1,5 +1,5 @@
 #![tactic(auto)]
-//! Three Raft servers in one process, over the steps of `raft_handlers`: they elect a leader, lose
+//! Three Raft servers in one process, over the steps of `steps_handlers`: they elect a leader, lose
 //! it, restart it from its disk, and change the members. `Server` is an engine to start yours from;
 //! in the network below it a message is a call. Left out are timers, snapshots, clients, lost
 //! messages, and the greatest term that a server has heard of.
@@ -7,15 +7,15 @@
 use anyhow::{Context, Result, bail, ensure};
 use raft_base::leader_id_std::{CommittedLeaderId, LeaderId};
 use raft_base::{EmptyNode, LogIdOf, LogIdRangeOf, LogStateReader};
-use raft_handlers::{
-    AppendEntries, Candidate, Heartbeat, Leader, Outcome, RequestNumber, Response, State, Stored,
-    handle_append_entries, handle_vote_request, restart_server, start_cluster,
-};
 use raft_members::{ChangeMembers, Membership};
 use raft_progress::InflightOf;
 use raft_state::{EntryOf, EntryPayload};
 use std::alloc::Global;
 use std::collections::BTreeMap;
+use steps_handlers::{
+    AppendEntries, Candidate, Heartbeat, Leader, Outcome, RequestNumber, Response, State, Stored,
+    handle_append_entries, handle_vote_request, restart_server, start_cluster,
+};
 
 type LogEntry = EntryOf<CommittedLeaderId, u64, EmptyNode, u64>;
 
@@ -31,22 +31,27 @@ struct Server {
 }
 
 impl Server {
-    /// Ends a step, before the server sends or answers: writes the vote, a truncation and the new
-    /// entries to disk, and flushes them. A leader then counts what its disk has, and commits what
-    /// a quorum has; it stops if it has promised a higher vote or is removed. What is committed is
-    /// applied, in one write with `committed`, because a crash in between would apply it twice.
-    fn finish(&mut self, truncated_from: Option<u64>, new: &[LogEntry]) -> Result<()> {
+    /// Ends a step, before any message leaves: writes to disk the vote, and from the index on from
+    /// which the log has changed these entries, and flushes them. A leader then counts what its disk
+    /// has, and commits what a quorum has; it stops if it has promised a higher vote or is removed.
+    /// What is committed is applied, in one write with `committed`, because a crash in between would
+    /// apply it twice.
+    fn finish(&mut self, log_from: Option<u64>, entries: &[LogEntry]) -> Result<()> {
         let (state, disk) = (&mut self.state, &mut self.disk);
         disk.vote = *state.vote_ref();
-        if let Some(index) = truncated_from {
-            disk.entries.truncate(index as usize);
+        if let Some(from) = log_from {
+            disk.entries.truncate(from as usize);
+            let known = entries.partition_point(|entry| entry.log_id.index < from);
+            disk.entries.extend_with_clones(entries.split_at(known).1)?;
         }
-        let before = end(state.last_log_id().copied()).checked_sub(new.len());
-        ensure!(before == Some(disk.entries.len()), "the disk lacks entries");
-        disk.entries.extend_with_clones(new)?;
+        let last = disk.entries.last().map(|entry| entry.log_id);
+        ensure!(
+            last == state.last_log_id().copied(),
+            "the disk lacks entries"
+        );
         self.leader.take_if(|leader| !leader.leads(state));
         if let Some(leader) = &mut self.leader {
-            leader.handle_flushed(state, disk.entries.last().map(|entry| entry.log_id))?;
+            leader.handle_flushed(state, last)?;
             leader.commit(state)?;
         }
         self.leader.take_if(|leader| leader.is_removed(state));
@@ -70,8 +75,12 @@ impl Server {
     /// Handles a leader's request, and writes to disk what it has changed.
     fn follow(&mut self, request: &Request) -> Result<Response<LeaderId<u64>, CommittedLeaderId>> {
         let (response, changes) = handle_append_entries(&mut self.state, request)?;
-        let known = request.entries.len().saturating_sub(changes.new);
-        self.finish(changes.truncated_from, request.entries.split_at(known).1)?;
+        // The log has the entries of a request only if it matches.
+        let entries = match response.outcome {
+            Outcome::Matches(_) => request.entries.as_slice(),
+            _ => &[],
+        };
+        self.finish(changes.log_from, entries)?;
         Ok(response)
     }
 
@@ -79,7 +88,7 @@ impl Server {
     fn add(&mut self, number: u64) -> Result<()> {
         let leader = self.leader.as_ref().context("the server does not lead")?;
         let entry = leader.propose(&mut self.state, number)?;
-        self.finish(None, &[entry])
+        self.finish(Some(entry.log_id.index), &[entry])
     }
 
     /// Appends a membership that leads to these voters: first a joint one, and then the last.
@@ -87,7 +96,7 @@ impl Server {
         let change = ChangeMembers::replace_all(*self.disk.entries.allocator(), voters)?;
         let leader = self.leader.as_mut().context("the server does not lead")?;
         let entry = leader.propose_change(&mut self.state, change, false)?;
-        self.finish(None, &[entry])
+        self.finish(Some(entry.log_id.index), &[entry])
     }
 }
 
@@ -112,7 +121,7 @@ fn start(alloc: Global) -> Result<BTreeMap<u64, Server>> {
     let nodes = (1..=3).map(|id| (id, EmptyNode::new())).collect(alloc)?;
     let server = at(&mut servers, 1)?;
     let entries = start_cluster(&mut server.state, &1, Membership::from_nodes(alloc, nodes)?)?;
-    server.finish(None, &entries)?;
+    server.finish(Some(0), &entries)?;
     Ok(servers)
 }
 
@@ -133,7 +142,7 @@ fn elect(servers: &mut BTreeMap<u64, Server>, id: u64, voter: u64) -> Result<()>
     let leader = Leader::new(&mut server.state, &candidate)?;
     let entry = leader.propose_blank(&mut server.state)?;
     server.leader = Some(leader);
-    server.finish(None, &[entry])
+    server.finish(Some(entry.log_id.index), &[entry])
 }
 
 /// Returns what the leader sends to a follower: entries that it lacks, or a heartbeat.
@@ -168,7 +177,8 @@ fn replicate(servers: &mut BTreeMap<u64, Server>, id: u64, followers: &[u64]) ->
         let response = at(servers, follower)?.follow(&request)?;
         let server = at(servers, id)?;
         if let Outcome::HigherVote(vote) = response.outcome {
-            server.state.promise(vote);
+            // `finish` writes it to disk.
+            let _is_promised = server.state.promise(vote);
         }
         if let Some(leader) = &mut server.leader {
             // A response that is late or comes twice is refused, and changes nothing.

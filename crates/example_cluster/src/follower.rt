@@ -3,7 +3,7 @@
 use crate::fault::Fault;
 use crate::server::Server;
 use crate::types::{AppendEntries, InstallSnapshot, LeaderId, Response, Vote};
-use raft_handlers::{
+use steps_handlers::{
     HandlerError, Outcome, RequestNumber, handle_append_entries, handle_install_snapshot,
 };
 
@@ -19,7 +19,12 @@ impl Server {
             });
         }
         let (response, changes) = handle_append_entries(&mut self.state, request)?;
-        self.write(&request.entries, &changes)?;
+        // The log has the entries of a request only if it matches.
+        let entries = match response.outcome {
+            Outcome::Matches(_) => request.entries.as_slice(),
+            _ => &[],
+        };
+        self.write(entries, &changes)?;
         Ok(response)
     }
 

@@ -43,19 +43,19 @@ pub type SnapshotMeta = SnapshotMetaOf<CommittedLeaderId, u64, EmptyNode>;
 pub type State = RaftStateIn<u64, EmptyNode, u64, LeaderId, CommittedLeaderId>;
 
 /// A candidate, with the votes for it.
-pub type Candidate = raft_handlers::Candidate<u64, EmptyNode, LeaderId, CommittedLeaderId>;
+pub type Candidate = steps_handlers::Candidate<u64, EmptyNode, LeaderId, CommittedLeaderId>;
 
 /// A leader, with what it knows of its followers and of itself.
-pub type Leader = raft_handlers::Leader<u64, EmptyNode, CommittedLeaderId>;
+pub type Leader = steps_handlers::Leader<u64, EmptyNode, CommittedLeaderId>;
 
 /// A candidate's request for a vote.
-pub type VoteRequest = raft_handlers::VoteRequest<LeaderId, CommittedLeaderId>;
+pub type VoteRequest = steps_handlers::VoteRequest<LeaderId, CommittedLeaderId>;
 
 /// A voter's response to a candidate.
-pub type VoteResponse = raft_handlers::VoteResponse<LeaderId>;
+pub type VoteResponse = steps_handlers::VoteResponse<LeaderId>;
 
 /// A leader's request to append entries.
-pub type AppendEntries = raft_handlers::AppendEntries<
+pub type AppendEntries = steps_handlers::AppendEntries<
     LeaderId,
     CommittedLeaderId,
     u64,
@@ -64,7 +64,7 @@ pub type AppendEntries = raft_handlers::AppendEntries<
 >;
 
 /// A leader's request to install its snapshot.
-pub type InstallSnapshot = raft_handlers::InstallSnapshot<
+pub type InstallSnapshot = steps_handlers::InstallSnapshot<
     LeaderId,
     CommittedLeaderId,
     u64,
@@ -72,10 +72,10 @@ pub type InstallSnapshot = raft_handlers::InstallSnapshot<
 >;
 
 /// A follower's response to a leader.
-pub type Response = raft_handlers::Response<LeaderId, CommittedLeaderId>;
+pub type Response = steps_handlers::Response<LeaderId, CommittedLeaderId>;
 
 /// What a request to append entries has changed.
-pub type Changes = raft_handlers::Changes<CommittedLeaderId>;
+pub type Changes = steps_handlers::Changes<CommittedLeaderId>;
 
 /// Returns the index after a log id, or 0 after none.
 pub fn end(last: Option<LogId>) -> u64 {

@@ -2,15 +2,14 @@
 //! members.
 
 use crate::deed::Deed;
-use crate::fault::Fault;
 use crate::message::Content;
 use crate::server::{Role, Server};
 use crate::types::{
     AppendEntries, ChangeMembers, Entry, InstallSnapshot, Leader, LogIdRange, Response, end,
 };
-use raft_handlers::{HandlerError, Heartbeat, Outcome, RequestNumber, ResumeError};
 use raft_progress::InflightOf;
 use std::alloc::AllocError;
+use steps_handlers::{HandlerError, Heartbeat, Outcome, RequestNumber, ResumeError};
 
 /// How many entries a request carries, while no more wait to be committed. With so few a log grows
 /// in steps, and a leader can be lost between two of them.
@@ -119,10 +118,11 @@ impl Server {
     /// Commits what a quorum has, if the server leads.
     fn commit(&mut self) -> Result<(), HandlerError> {
         if let Role::Leader(leader) = &self.role {
-            leader.commit(&mut self.state)?;
             let granted = leader.granted();
-            if self.fault == Some(Fault::CommitEarlierTerm) && self.state.can_commit(&granted) {
+            if self.commits_wrongly(leader) && self.state.can_commit(&granted) {
                 self.state.update_committed(&granted)?;
+            } else {
+                leader.commit(&mut self.state)?;
             }
         }
         Ok(())

@@ -4,7 +4,7 @@ use crate::deed::Deed;
 use crate::fault::Fault;
 use crate::server::{Role, Server};
 use crate::types::{Candidate, Leader, VoteRequest, VoteResponse};
-use raft_handlers::{HandlerError, handle_vote_request};
+use steps_handlers::{HandlerError, handle_vote_request};
 
 impl Server {
     /// Campaigns in a term that is greater than any that the server has heard of, and votes for
@@ -12,6 +12,7 @@ impl Server {
     pub fn campaign(&mut self) -> Result<(), HandlerError> {
         self.follow();
         let candidate = Candidate::campaign(self.id, self.term, &mut self.state)?;
+        self.write_vote();
         self.term = self.vote().leader_id.get_term();
         self.role = Role::Candidate(candidate);
         self.lead_if_elected()
@@ -34,6 +35,7 @@ impl Server {
         }
         let response = handle_vote_request(&mut self.state, &request);
         if response.granted {
+            self.write_vote();
             self.follow();
         }
         response
@@ -61,6 +63,7 @@ impl Server {
         match &self.role {
             Role::Candidate(candidate) if candidate.is_elected() => {
                 let leader = Leader::new(&mut self.state, candidate)?;
+                self.write_vote();
                 self.deed = Some(Deed::Leads);
                 self.lead(leader)
             }
