@@ -21,12 +21,16 @@ func Open(path string) (err error) {
 // Event writes the line of an event. The operating system has the line when Event returns.
 func Event(fields map[string]any) {
 	line, err := json.Marshal(fields)
-	if err != nil {
-		panic(err)
-	}
+	must(err)
 	lock.Lock()
 	defer lock.Unlock()
-	if _, err := file.Write(append(line, '\n')); err != nil {
-		panic(err) // a record that lacks a line says little
+	_, err = file.Write(append(line, '\n'))
+	must(err)
+}
+
+// must ends the process, because a record that lacks a line says little.
+func must(err error) {
+	if err != nil {
+		panic(err)
 	}
 }
