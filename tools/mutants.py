@@ -1,16 +1,18 @@
 #!/usr/bin/env python3
 """Tries mutants: changes of functions that the prover has to refuse.
 
-    tools/mutants.py [--named] [--jobs N] [CRATE | CRATE/WORD ..]
+    tools/mutants.py [--jobs N] [CRATE | CRATE/WORD ..]
+    tools/mutants.py --gate
     tools/mutants.py --check
 
-Without a name it tries those of all crates. A mutant is a file `crates/CRATE/mutants/WORD.edit`, in the form of
-the toolchain's `must-fail` edits, with a line that names functions as `rt check` prints them:
+Without a name it tries those of all crates. A mutant is a file `WORD.edit` in `crates/CRATE/mutants`, or in
+`crates/CRATE/specified/mutants` if the specification names its fault. It has the form of the toolchain's
+`must-fail` edits, and a line that names functions as `rt check` prints them:
 
     only: PATH..     the functions that it changes
     alone: PATH..    for a change of a declaration or of a definition: the functions whose clauses have to fail
 
-Mutants of different functions stand in one copy of the crate, and one `rt check --only` over their functions
+Mutants of different functions stand in one copy of the crate, and one `check --only` over their functions
 proves these and nothing above them. That is sound, because a proof cites the contract of a function that it
 calls, and not its code. A mutant counts as refused if the prover refuses a goal of its own function. If the
 function calls one that another mutant changes, and has no such goal, the mutant is tried in a later round, and
@@ -18,10 +20,12 @@ if the function is proved, alone. A mutant with a line `alone` is always tried a
 
 For each mutant the script prints the goal that refuses it. A refusal does not count if a file of proofs only
 names what the change took away. A crate's `control.edit` changes nothing that a contract says, and must not be
-refused. `--named` also tries the mutants of `must-fail/`, which `rt ci` tries at each run.
+refused. The status is 1 if a mutant is not refused, or a control is.
 
-The status is 1 if a mutant is not refused, or a control is. `--jobs` says how many crates are tried side by side.
-`--check` proves nothing: it says which mutants of both folders do not fit the sources.
+`--gate` tries the mutants of `specified/` alone, over the libraries that `rt ci` has just built. Otherwise
+`rt lib` builds the libraries, and the check begins with what `rt check` has kept. `--jobs` says how many crates
+are tried side by side. `--check` proves nothing: it says which mutants name a function that is not there, or a
+text that is not in the sources.
 """
 import argparse
 import os
@@ -33,8 +37,15 @@ import tempfile
 import time
 from concurrent.futures import ThreadPoolExecutor
 
+sys.dont_write_bytecode = True
+import docs
+
 ROOT = os.path.dirname(os.path.dirname(os.path.realpath(__file__)))
+KIT = os.path.dirname(subprocess.run(["rt", "doc"], stdout=subprocess.PIPE, text=True, check=True).stdout.split("\n")[0])
 CONTROL = "control"
+SPECIFIED = "specified/mutants"
+# Where a check keeps what it has proved.
+KEPT = "out/incremental"
 # What antt says if a proof names something that the code no longer has.
 GONE = r"has no field|is not in scope|has no `|was not admitted|\(nearest: "
 
@@ -72,34 +83,25 @@ class Mutant:
 
 
 class Crate:
-    """A crate in a copy of the repository that has this crate and its libraries alone."""
+    """A copy of a crate."""
 
     def __init__(self, name, listed, room):
-        self.name, self.room = name, room
-        self.libraries = libraries_of(name, listed)
-        self.source = f"{ROOT}/crates/{name}"
-        self.copy = f"{room}/crates/{name}"
-        self.said = []
+        self.name, self.copy, self.said = name, f"{room}/{name}", []
+        for part in ("src", "specs", "proofs", KEPT):
+            if os.path.isdir(f"{ROOT}/crates/{name}/{part}"):
+                shutil.copytree(f"{ROOT}/crates/{name}/{part}", f"{self.copy}/{part}")
+        root = next(it for it in ("src/lib.rt", "src/main.rt") if os.path.exists(f"{self.copy}/{it}"))
+        self.words = [f"{KIT}/bin/rattle", "check", "--crate-name", name, root, "--jobs", "1", "--links", f"{name}="]
+        self.words += ["--antt-project", f"{KIT}/rattle/logic/antt-project.json", "--logic-built", f"{KIT}/logic_built"]
+        for it in ["std", *listed[name]]:
+            self.words += ["--extern", f"{it}={built(it) if it in listed else f'{KIT}/rlibs/{it}.rlib'}"]
+        for folder in [f"{KIT}/rlibs", *[os.path.dirname(built(it)) for it in libraries_of(name, listed)]]:
+            self.words += ["-L", f"dependency={folder}"]
+        self.words += ["--incremental", KEPT]
 
     def say(self, text):
         """Keeps a line, so that the lines of crates that are tried side by side do not mix."""
         self.said.append(f"{self.name}: {text}")
-
-    def prepare(self, listed):
-        """Copies the crate with what checks have kept of it, and its libraries with what was built of them."""
-        for name in [*self.libraries, self.name]:
-            folder = f"{ROOT}/crates/{name}"
-            for part in ("src", "specs", "proofs"):
-                if os.path.isdir(f"{folder}/{part}"):
-                    shutil.copytree(f"{folder}/{part}", f"{self.room}/crates/{name}/{part}")
-        for name in self.libraries:
-            built = f"crates/{name}/out/rlib"
-            shutil.copytree(f"{ROOT}/{built}", f"{self.room}/{built}", copy_function=link_or_copy)
-        kept = "out/incremental"
-        if os.path.isdir(f"{self.source}/{kept}"):
-            shutil.copytree(f"{self.source}/{kept}", f"{self.copy}/{kept}")
-        with open(f"{self.room}/crates.txt", "w", encoding="utf-8") as file:
-            file.write("".join(listed[it][1] for it in [*self.libraries, self.name]))
 
     def read(self, path):
         return read_file(f"{self.copy}/{path}")
@@ -109,9 +111,7 @@ class Crate:
         own = {path: self.read(path) for path in texts}
         for path, text in texts.items():
             write(f"{self.copy}/{path}", text)
-        words = ["rt", "check", "--jobs", "1"]
-        for it in functions:
-            words += ["--only", it]
+        words = self.words + [word for it in functions for word in ("--only", it)]
         ran = subprocess.run(words, cwd=self.copy, stdin=subprocess.DEVNULL, stdout=subprocess.PIPE,
                              stderr=subprocess.STDOUT, errors="replace", check=False)
         for path, text in own.items():
@@ -214,13 +214,6 @@ def answer_of(error):
     return f"{kind} `{found[1]}`" if found else error[-160:]
 
 
-def link_or_copy(source, target):
-    try:
-        os.link(source, target)
-    except OSError:
-        shutil.copy2(source, target)
-
-
 def read_file(file):
     with open(file, encoding="utf-8") as it:
         return it.read()
@@ -232,23 +225,36 @@ def write(file, text):
 
 
 def list_crates():
-    """Each crate of crates.txt by its name: what it uses, and its line."""
-    listed = {}
+    """What each crate of crates.txt uses."""
     with open(f"{ROOT}/crates.txt", encoding="utf-8") as file:
-        for line in file:
-            name, colon, rest = line.partition("#")[0].partition(":")
-            if colon:
-                listed[name.split()[0]] = rest.split(), line
-    return listed
+        lines = [line.partition("#")[0].partition(":") for line in file]
+    return {name.strip(): uses.split() for name, colon, uses in lines if colon}
 
 
 def libraries_of(name, listed):
     """The libraries of the repository below a crate, each after those that it uses."""
     found = []
-    for it in listed[name][0]:
+    for it in listed[name]:
         if it in listed:
             found += [below for below in [*libraries_of(it, listed), it] if below not in found]
     return found
+
+
+def built(name):
+    """Where a library of the repository is, once it is built."""
+    return f"{ROOT}/crates/{name}/out/rlib/{name}.rlib"
+
+
+def build(names, is_after_ci):
+    """Builds libraries, each after those that it uses, unless they are as `rt ci` has built them, without a stamp."""
+    stamps = [f"{os.path.dirname(built(it))}/stamp" for it in names]
+    if is_after_ci and all(map(os.path.isdir, map(built, names))) and not any(map(os.path.exists, stamps)):
+        return
+    for name in names:
+        ran = subprocess.run(["rt", "lib"], cwd=f"{ROOT}/crates/{name}", stdin=subprocess.DEVNULL,
+                             stdout=subprocess.PIPE, stderr=subprocess.STDOUT, errors="replace", check=False)
+        if ran.returncode:
+            sys.exit(f"{name} is not proved: run `rt lib` in its folder")
 
 
 def mutants_of(name, folders, words=()):
@@ -261,25 +267,49 @@ def mutants_of(name, folders, words=()):
     return [it for it in map(Mutant, files) if not words or it.name in words]
 
 
+def head_of(path, parameters):
+    """The name of a type or a trait, with what it is applied to, without parameters of the impl."""
+    words = re.findall(r"\w+", re.sub(r"(\w+::)+", "", path))
+    return words[:1] + [word for word in words[1:] if word not in parameters]
+
+
+def functions_of(modules, crate):
+    """The functions of a crate, as `rt check` prints them."""
+    found = set()
+    for place, module in modules.items():
+        for item in module.items if place[0] == crate else ():
+            within, head = place[1:], []
+            if item.kind == "impl":
+                impl = docs.read_impl(modules, place, item)
+                generics = re.match(r"<(?:[^<>]|->|<(?:[^<>]|<[^<>]*>)*>)*>|", docs.flat_header(item).removeprefix("impl"))[0]
+                parameters = set(re.findall(r"(?<=[<,])\s*(?:const |')?(\w+)", generics))
+                head = head_of(impl.type_text, parameters)
+                if impl.trait_text:
+                    head = ["".join(word[0].upper() + word[1:] for word in head + head_of(impl.trait_text, parameters))]
+                elif len(head) == 1 and impl.target:
+                    within = impl.target[1:-1]
+                else:
+                    head = ["+".join(re.findall(r"\w+", impl.type_text))]
+            calls = item.members if item.kind == "impl" else [item]
+            found |= {"::".join((*within, *head, call.name)) for call in calls if call.kind == "fn"}
+    return found
+
+
 def find_unfit(listed):
     """Says which mutants do not fit the sources, and returns their number."""
+    modules = docs.read_modules(with_tests=True)
     unfit = 0
     for crate in listed:
         read = lambda path, crate=crate: read_file(f"{ROOT}/crates/{crate}/{path}")
-        for it in mutants_of(crate, ["mutants", "must-fail"]):
+        functions = functions_of(modules, crate)
+        for it in mutants_of(crate, ["mutants", SPECIFIED]):
+            wrong = [f"there is no function {path}" for path in it.functions if path not in functions]
             if it.applied({}, read) is None:
-                print(f"{crate}/{it.name}: a text that it replaces is not in its file exactly once")
-                unfit += 1
+                wrong.append("a text that it replaces is not in its file exactly once")
+            for why in wrong:
+                print(f"{crate}/{it.name}: {why}")
+            unfit += bool(wrong)
     return unfit
-
-
-def build(names):
-    """Builds libraries, each after those that it uses."""
-    for name in names:
-        ran = subprocess.run(["rt", "lib"], cwd=f"{ROOT}/crates/{name}", stdin=subprocess.DEVNULL,
-                             stdout=subprocess.PIPE, stderr=subprocess.STDOUT, errors="replace", check=False)
-        if ran.returncode:
-            sys.exit(f"{name} is not proved: run `rt lib` in its folder")
 
 
 def try_crate(name, listed, mutants):
@@ -287,7 +317,6 @@ def try_crate(name, listed, mutants):
     began = time.time()
     with tempfile.TemporaryDirectory(prefix="mutants-") as room:
         crate = Crate(name, listed, room)
-        crate.prepare(listed)
         wrong = crate.try_all(mutants)
     controls = sum(it.name == CONTROL for it in mutants)
     crate.say(f"{len(mutants) - controls} mutants, {wrong} wrong verdicts, {time.time() - began:.0f} s")
@@ -297,14 +326,14 @@ def try_crate(name, listed, mutants):
 def main():
     parser = argparse.ArgumentParser(description=__doc__, formatter_class=argparse.RawDescriptionHelpFormatter)
     parser.add_argument("--check", action="store_true", help="only find mutants that do not fit the sources")
-    parser.add_argument("--named", action="store_true", help="also try the mutants of must-fail/")
+    parser.add_argument("--gate", action="store_true", help="try the mutants of specified/ after `rt ci`")
     parser.add_argument("--jobs", type=int, default=len(os.sched_getaffinity(0)), help="crates side by side")
     parser.add_argument("names", nargs="*", metavar="CRATE | CRATE/WORD")
     given = parser.parse_args()
     listed = list_crates()
     if given.check:
         return 1 if find_unfit(listed) else 0
-    folders = ["mutants", *["must-fail"] * (given.named or any("/" in it for it in given.names))]
+    folders = [SPECIFIED] if given.gate else ["mutants", SPECIFIED]
     words = {}
     for it in given.names:
         crate, _, word = it.partition("/")
@@ -314,10 +343,7 @@ def main():
         if not tried.get(it):
             sys.exit(f"there is no such mutant of {it}")
     tried = {it: mutants for it, mutants in tried.items() if mutants}
-    below = []
-    for name in tried:
-        below += [it for it in libraries_of(name, listed) if it not in below]
-    build(below)
+    build([*dict.fromkeys(it for name in tried for it in libraries_of(name, listed))], given.gate)
     wrong = 0
     with ThreadPoolExecutor(given.jobs) as pool:
         for said, count in pool.map(lambda it: try_crate(it, listed, tried[it]), tried):

@@ -5,7 +5,7 @@
 #
 # `statuses` compares the exit status, the output and the standard error of `raft-state`, also for odd
 # input and with words on its command line, of the options of the simulated cluster, and of `raft_trace`. It compares
-# the answers of `raft_trace` to the runs of crates/raft_trace/runs with the table there, and to recorded runs of the
+# the answers of `raft_trace` to the runs of crates/trace_program/runs with the table there, and to recorded runs of the
 # simulated cluster, without a fault and with each planted one, with the rule that names the fault.
 # `seeds` runs the cluster: 2,000 seeds and long runs, each of which must be safe and converge and never be long without a
 # commit, and 300 seeds with each planted fault, which some must show. It also runs 50 seeds over openraft's
@@ -45,10 +45,10 @@ run() { timeout 60 $crate/out/raft_script "$@"; }
 run_into_full_device() { run "$@" > /dev/full; }
 run_into_closed_pipe() { run | head -n 1; }
 usage_of() { run "$@" | head -n 1; }
-cluster() { timeout 120 crates/cluster/out/cluster "$@"; }
+cluster() { timeout 120 crates/example_cluster/out/example_cluster "$@"; }
 silent_cluster() { cluster "$@" > /dev/null; }
 begin() { printf 'init 0 1 -\nupdate 1 5\n'; }
-trace() { timeout 60 crates/raft_trace/out/raft_trace "$@"; }
+trace() { timeout 60 crates/trace_program/out/trace_program "$@"; }
 trace_into_full_device() { trace "$@" > /dev/full; }
 trace_into_nothing() { trace "$@" >&-; }
 # Has so many kilobytes of memory, and 15 seconds of a processor: with more work than the lines say it takes longer.
@@ -163,8 +163,8 @@ statuses() {
 records() {
     local safe="3 servers, 0 terms with a leader, 0 committed, 0 membership changes"
     local no_event="line 2: it is no JSON with a text \`event\`"
-    compare "a safe run" 0 "$(cat crates/raft_trace/stdout)" "" trace < crates/raft_trace/stdin
-    compare "a chart" 0 "$(cat crates/raft_trace/chart.stdout)" "" trace --chart < crates/raft_trace/stdin
+    compare "a safe run" 0 "$(cat crates/trace_program/stdout)" "" trace < crates/trace_program/stdin
+    compare "a chart" 0 "$(cat crates/trace_program/chart.stdout)" "" trace --chart < crates/trace_program/stdin
     compare "no record" 2 "line 1: it has to be \`started\`, with lists of texts or numbers \`voters\`, a number \`first\` or\
  none, and \`configs\`, if it is there, as \`appended\` or \`applied\`" "" trace < /dev/null
     compare "a start alone" 0 "safe: 0 events, $safe" "" trace < <(start)
@@ -214,7 +214,7 @@ records() {
 files() {
     local folder word said
     folder=$(mktemp -d)
-    said=$(cat crates/raft_trace/stdout)
+    said=$(cat crates/trace_program/stdout)
     for word in --help -h; do
         compare "$word of raft_trace" 0 "Usage: raft_trace [OPTIONS] [FILE]..." "" trace_usage "$word" < <(start)
     done
@@ -233,11 +233,11 @@ files() {
     compare "a directory after a start" 3 "$folder: Is a directory (os error 21)" "" trace - "$folder" < <(start)
     compare "a closed output" 3 "" "raft_trace: Bad file descriptor (os error 9)" trace_into_nothing < <(start)
     compare "a word that is no UTF-8" 3 "" "raft_trace: invalid data" trace $'\xff' < <(start)
-    compare "a file" 0 "$said" "" trace crates/raft_trace/stdin
-    compare "standard input among files" 0 "$said" "" trace - /dev/null < crates/raft_trace/stdin
+    compare "a file" 0 "$said" "" trace crates/trace_program/stdin
+    compare "standard input among files" 0 "$said" "" trace - /dev/null < crates/trace_program/stdin
     # Each server has its own file, which has the events of the others in no order.
     for word in 1 2 3 4 5; do
-        { head -n 1 crates/raft_trace/stdin; grep -E "\"(server|leader)\":$word," crates/raft_trace/stdin \
+        { head -n 1 crates/trace_program/stdin; grep -E "\"(server|leader)\":$word," crates/trace_program/stdin \
             | grep -vE "\"server\":[^$word],"; } > "$folder/$word"
     done
     compare "a file of each server" 0 "$said" "" trace "$folder"/[1-5]
@@ -261,7 +261,7 @@ judge() {
 
 # The runs that were written by hand: each row of their table has a run, the status, the line, and the answer.
 written_runs() {
-    local runs=crates/raft_trace/runs rows=0 name status line answer begin is=wrong
+    local runs=crates/trace_program/runs rows=0 name status line answer begin is=wrong
     while IFS='|' read -r _ name _ status line answer _; do
         name=${name#*\`}
         name=${name%%\`*}
@@ -307,6 +307,7 @@ recorded_runs() {
     judge_cluster 1 "the server has reached or passed the term already" seed=18 fault=VoteTwice
     judge_cluster 1 "the leader is not elected in the term" seed=85 fault=CountRefusal
     judge_cluster 1 "the server has reached or passed the term already" seed=260 fault=ForgetVote
+    judge_cluster 1 "the server has reached or passed the term already" seed=170 fault=UnwrittenVote
     judge_cluster 1 "the server has not kept the leader's entries since the term" seed=6 fault=KeepConflicts
     judge_cluster 1 "the server has not kept the leader's entries since the term" seed=44 fault=AcknowledgeUnwritten
     judge_cluster 1 "the server has not kept the leader's entries since the term" seed=90 fault=AcknowledgeUninstalled
@@ -372,7 +373,7 @@ run_seeds() {
 try_copy() {
     local copy=$1
     shift
-    (cd "$copy/crates/cluster" && rt try --seconds 600 -- "trace=$record" "$@" 2>&1)
+    (cd "$copy/crates/example_cluster" && rt try --seconds 600 -- "trace=$record" "$@" 2>&1)
 }
 
 # Runs the cluster over openraft's default leader ids: a copy of the sources with two other aliases.
@@ -384,12 +385,12 @@ run_default_leader_ids() {
     tar --exclude=out -c crates | tar -x -C "$copy"
     sed -i 's/raft_base::leader_id_std::LeaderId<u64>;/raft_base::LeaderId<u64>;/
         s/raft_base::leader_id_std::CommittedLeaderId;/raft_base::CommittedLeaderId<u64>;/' \
-        "$copy/crates/cluster/src/types.rt"
+        "$copy/crates/example_cluster/src/types.rt"
     said=$(try_copy "$copy" chart=0 seeds=50 events=1500)
     echo "seeds over the default leader ids:"
     grep -E '^([0-9,]+ (elections?|of)|longest time)' <<< "$said" | sed 's/^/    /'
     grep -q '^50 of 50 clusters safe and converged' <<< "$said" \
-        && [ "$(grep -c '_std::' "$copy/crates/cluster/src/types.rt")" = 0 ] && is=right
+        && [ "$(grep -c '_std::' "$copy/crates/example_cluster/src/types.rt")" = 0 ] && is=right
     count "the default leader ids" $is "$(tail -n 3 <<< "$said")"
     judge "the default leader ids, the first cluster recorded" 0 "safe: " "" "$record"
     : > "$record"
@@ -401,7 +402,7 @@ run_default_leader_ids() {
 
 seeds() {
     local fault faults is=wrong
-    faults=$(crates/cluster/out/cluster --help | sed -n 's/^ \{6\}\([A-Z][A-Za-z]*\)  *[a-z].*$/\1/p')
+    faults=$(crates/example_cluster/out/example_cluster --help | sed -n 's/^ \{6\}\([A-Z][A-Za-z]*\)  *[a-z].*$/\1/p')
     [ "$(wc -w <<< "$faults")" -ge 10 ] && is=right
     count "faults" $is "there are less than ten: $faults"
     run_seeds healthy seeds=2000 events=1500

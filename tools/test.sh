@@ -40,7 +40,7 @@ run_program() {
     echo "$1: $is, $((SECONDS - began)) s"
 }
 
-for tests in *_tests raft_script; do run_tests "$tests"; done
-for program in raft_script raft_trace first_example three_nodes cluster; do run_program "$program"; done
+for tests in tests_* raft_script; do [ "$tests" = tests_support ] || run_tests "$tests"; done
+for program in raft_script trace_program example_first example_node example_cluster; do run_program "$program"; done
 echo "$passed passed, $failed failed, none proved, $SECONDS s"
 [ "$failed" = 0 ]
