@@ -3,6 +3,9 @@ use clap::error::ErrorKind;
 use clap::{Arg, ArgAction, ArgMatches, Command, Error};
 use std::alloc::Global;
 
+/// The name of the program.
+const PROGRAM: &str = "raft_trace";
+
 /// What the program is for.
 const ABOUT: &str = "\
 Judges a recorded run of a Raft cluster. It reads one event a line, as JSON, from the files, or from
@@ -46,7 +49,9 @@ pub(crate) fn parsed<'a>(alloc: Global, words: &'a [String]) -> Result<ArgMatche
         .long(CHART)
         .action(ArgAction::SetTrue)
         .help("Draw the run before the answer");
-    let command = Command::new(alloc, "raft_trace")
+    let command = Command::new(alloc, PROGRAM)
+        // The name of the file is that of the crate, and not that of the program.
+        .bin_name(PROGRAM)?
         .about(ABOUT)
         .after_help(EXAMPLE)
         .arg(chart)?
