@@ -93,7 +93,7 @@ is_trace_right() {
 }
 run_trace() { crates/trace_program/out/trace_program --chart < "crates/trace_program/runs/$1.jsonl"; }
 
-for tests in tests_base tests_members tests_progress tests_state tests_handlers tests_laws; do
+for tests in tests_base tests_members tests_progress tests_state tests_handlers tests_checker; do
     run_tests "$tests"
 done
 answers=($'2 no-memory\nbad line 2')

@@ -1,29 +1,55 @@
 //! Handlers with each allocation refused in turn, or all of them.
 
-use crate::candidate::{candidate, count};
-use crate::leader::{HEARTBEATS, LIFE, LeaderOf, Led, Right, SNAPSHOT, Step, snapshotted};
-use crate::states::{Entry, Row, StateOf, entries, entry_of_members, follower, id, members, voter};
-use crate::vote::{ROWS, answers};
-use raft_base::{EmptyNode, LeaderAdv, LeaderId, LeaderKind, VoteIn};
-use raft_members::{ChangeMembers, ChangeMembershipErrorOf, StoredMembershipOf};
-use raft_state::SnapshotMetaOf;
+use crate::candidate::{campaign, is_elected};
+use crate::follower::grants;
+use crate::leader::{LeaderOf, Led};
+use crate::states::{Disk, Entry, Id, Server, at, entries, members, request, server, snapshot};
+use raft_base::leader_id_std::{CommittedLeaderId, LeaderId};
+use raft_base::{LogStateReader, VoteIn};
+use raft_members::{ChangeMembers, ChangeMembershipErrorOf};
+use raft_state::EntryPayload;
 use std::alloc::{AllocError, Global};
 use std::collections::BTreeSet;
 use std::io;
 use std::test::Fail;
 use steps_handlers::{
-    AppendEntries, Candidate, ChangeError, HandlerError, InstallSnapshot, Leader, Outcome,
-    ProposeError, RequestNumber, Response, SnapshotError, Stored, Tally, handle_append_entries,
-    handle_install_snapshot, restart_server, start_cluster,
+    ChangeError, HandlerError, InstallSnapshot, Leader, Outcome, ProposeError, RequestNumber,
+    Response, handle_append_entries, handle_install_snapshot, restart_server, start_cluster,
 };
 use tests_support::allocations::{Allocation, is_free, is_free_on, is_swept, refuse_each};
-use tests_support::memory::is_yes;
+use tests_support::memory::both_made;
 
-type Id = LeaderId<u64>;
+/// The calls that allocate.
+#[derive(Clone, Copy)]
+enum Call {
+    Append,
+    Install,
+    Restart,
+    Start,
+    Campaign,
+    Elect,
+    Resume,
+    Blank,
+    Propose,
+    Change,
+    Leave,
+}
 
-type State = StateOf<LeaderAdv>;
+const CALLS: &[(Call, &str)] = &[
+    (Call::Append, "handle_append_entries"),
+    (Call::Install, "handle_install_snapshot"),
+    (Call::Restart, "restart_server"),
+    (Call::Start, "start_cluster"),
+    (Call::Campaign, "Candidate::campaign"),
+    (Call::Elect, "Leader::new"),
+    (Call::Resume, "Leader::resume"),
+    (Call::Blank, "Leader::propose_blank"),
+    (Call::Propose, "Leader::propose"),
+    (Call::Change, "Leader::propose_change"),
+    (Call::Leave, "Leader::leave_joint"),
+];
 
-/// Whether a handler did its work, or its allocation error.
+/// Whether a call did its work, or its allocation error.
 fn is_done<T: Drop, E: Copy + From<AllocError> + PartialEq>(
     allocation: Allocation,
     made: Result<T, E>,
@@ -37,7 +63,7 @@ fn is_done<T: Drop, E: Copy + From<AllocError> + PartialEq>(
     allocation.made(false)
 }
 
-/// What a handler made, or an allocation error in the place of any refusal.
+/// What a call made, or an allocation error in the place of any refusal.
 fn in_memory<T: Drop, E: Drop>(made: Result<T, E>) -> Result<T, AllocError> {
     match made {
         Ok(made) => Ok(made),
@@ -45,41 +71,23 @@ fn in_memory<T: Drop, E: Drop>(made: Result<T, E>) -> Result<T, AllocError> {
     }
 }
 
-/// A request that appends a membership.
-fn appends_membership(
-    alloc: Global,
-) -> Result<AppendEntries<Id, Id, u64, EmptyNode, u64>, AllocError> {
-    Ok(AppendEntries {
-        leader_id: Id::new(3, 1),
-        request: RequestNumber::InFlight(1),
-        prev: id::<LeaderAdv>(Some((2, 3))),
-        entries: entry_of_members::<LeaderAdv>(alloc, Some((3, 4)))?,
-        committed: None,
-    })
-}
-
-/// The snapshot up to (3, 9), with a membership.
-fn snapshot(alloc: Global) -> Result<SnapshotMetaOf<Id, u64, EmptyNode>, AllocError> {
-    let mut meta = SnapshotMetaOf::try_default(alloc)?;
-    meta.last_log_id = id::<LeaderAdv>(Some((3, 9)));
-    let at = id::<LeaderAdv>(Some((2, 3)));
-    meta.last_membership = StoredMembershipOf::new(at, members(alloc)?);
-    Ok(meta)
-}
-
 /// A follower appends a membership.
-fn append(allocation: Allocation, state: &mut State) -> Result<bool, AllocError> {
-    let request = appends_membership(allocation.alloc)?;
+fn append(allocation: Allocation, state: &mut Server) -> Result<bool, AllocError> {
+    let request = request(allocation.alloc, 3, at(2, 3), &[(3, 4)], None);
+    let (members, mut request) = both_made(members(allocation.alloc), request)?;
+    if let Some(first) = request.entries.first_mut() {
+        first.payload = EntryPayload::Membership(members);
+    }
     allocation.refuse();
     is_done(allocation, handle_append_entries(state, &request))
 }
 
 /// A follower installs a snapshot.
-fn install(allocation: Allocation, state: &mut State) -> Result<bool, AllocError> {
+fn install(allocation: Allocation, state: &mut Server) -> Result<bool, AllocError> {
     let request = InstallSnapshot {
-        leader_id: Id::new(3, 1),
+        leader_id: LeaderId::new(3, 1),
         request: 1,
-        meta: snapshot(allocation.alloc)?,
+        meta: snapshot(allocation.alloc, at(3, 9))?,
     };
     allocation.refuse();
     is_done(allocation, handle_install_snapshot(state, &request))
@@ -87,21 +95,23 @@ fn install(allocation: Allocation, state: &mut State) -> Result<bool, AllocError
 
 /// A server restarts with a snapshot and an entry after it.
 fn restart(allocation: Allocation) -> Result<bool, AllocError> {
-    let stored = Stored::<Id, Id, u64, EmptyNode, u64> {
+    let log = entries(allocation.alloc, &[(3, 10)]);
+    let (snapshot, entries) = both_made(snapshot(allocation.alloc, at(3, 9)), log)?;
+    let disk = Disk {
         vote: VoteIn::new(3, 1),
-        snapshot: snapshot(allocation.alloc)?,
-        entries: entries::<LeaderAdv>(allocation.alloc, &[(3, 10)])?,
+        snapshot,
+        entries,
         committed: None,
     };
     allocation.refuse();
     is_done(
         allocation,
-        restart_server::<_, _, u64, _, _>(allocation.alloc, &stored),
+        restart_server::<_, _, u64, _, _>(allocation.alloc, &disk),
     )
 }
 
 /// A new server starts a cluster.
-fn start(allocation: Allocation, state: &mut State) -> Result<bool, AllocError> {
+fn start(allocation: Allocation, state: &mut Server) -> Result<bool, AllocError> {
     let members = members(allocation.alloc)?;
     allocation.refuse();
     is_done(
@@ -110,38 +120,46 @@ fn start(allocation: Allocation, state: &mut State) -> Result<bool, AllocError> 
     )
 }
 
-#[test]
-fn allocations_of_a_server(rt: HostRuntime) -> Result<(), Fail> {
-    let alloc = rt.alloc();
-    let state = |alloc: Global| follower::<LeaderAdv>(alloc, None);
-    let appends = |allocation: Allocation, state: &mut State| append(allocation, state);
-    assert!(rt; is_swept(&rt, alloc, "handle_append_entries", state, appends)?);
-    let installs = |allocation: Allocation, state: &mut State| install(allocation, state);
-    assert!(rt; is_swept(&rt, alloc, "handle_install_snapshot", state, installs)?);
-    let new = |alloc: Global| State::try_default(alloc);
-    let restarts = |allocation: Allocation, _new: &mut State| restart(allocation);
-    assert!(rt; is_swept(&rt, alloc, "restart_server", new, restarts)?);
-    let starts = |allocation: Allocation, new: &mut State| start(allocation, new);
-    assert!(rt; is_swept(&rt, alloc, "start_cluster", new, starts)?);
-    Ok(())
+/// A candidate that is elected becomes a leader.
+fn elect(allocation: Allocation) -> Result<bool, AllocError> {
+    let mut state = server(allocation.alloc)?;
+    let mut candidate = in_memory(campaign(&mut state))?;
+    let _elected = is_elected(&mut candidate);
+    allocation.refuse();
+    is_done(allocation, Leader::new(&mut state, &candidate))
 }
 
-/// A candidate that is elected becomes a leader.
-fn elect<K: LeaderKind<u64>>(allocation: Allocation) -> Result<bool, AllocError> {
-    let mut state = voter::<K>(allocation.alloc)?;
-    match candidate::<K>(&mut state) {
-        Ok(candidate) => {
-            allocation.refuse();
-            is_done(allocation, Leader::new(&mut state, &candidate))
-        }
-        Err(_) => Err(AllocError),
-    }
+/// A leader proposes an entry, blank or with data.
+fn propose(allocation: Allocation, state: &mut Server, is_blank: bool) -> Result<bool, AllocError> {
+    let leader = in_memory(Leader::resume(1, state, 0))?;
+    allocation.refuse();
+    let made: Result<Entry, ProposeError> = if is_blank {
+        leader.propose_blank(state)
+    } else {
+        leader.propose(state, 7)
+    };
+    is_done(allocation, made)
+}
+
+/// The leader 1 of a state, resumed, all of whose log is on disk at the nodes 1 and 2.
+fn granted(state: &Server) -> Result<LeaderOf, HandlerError> {
+    let upto = state.last_log_id().copied();
+    let mut leader = Leader::resume(1, state, 0)?;
+    leader.handle_flushed(state, upto)?;
+    let _sent = leader.next_request(state, &2, 8);
+    let response = Response::<LeaderId<u64>, CommittedLeaderId> {
+        leader_id: leader.leader_id(),
+        request: RequestNumber::InFlight(1),
+        outcome: Outcome::Matches(upto),
+    };
+    leader.handle_response(&2, &response)?;
+    Ok(leader)
 }
 
 /// Whether a change of the members was made, or its allocation error.
-fn is_changed<K: LeaderKind<u64>>(
+fn is_changed(
     allocation: Allocation,
-    made: Result<Entry<K>, ChangeError<K::Committed, u64>>,
+    made: Result<Entry, ChangeError<CommittedLeaderId, u64>>,
 ) -> Result<bool, AllocError> {
     match made {
         Ok(_) => Ok(true),
@@ -151,165 +169,109 @@ fn is_changed<K: LeaderKind<u64>>(
     }
 }
 
-impl<K: LeaderKind<u64>> Led<K> {
-    /// The leader 1 of a state, resumed, all of whose log up to a row is on disk at the nodes 1 and
-    /// 2.
-    fn granted(state: &StateOf<K>, upto: Row) -> Result<LeaderOf<K>, HandlerError> {
-        let mut leader = Leader::resume(1, state, 0)?;
-        leader.handle_flushed(state, id::<K>(upto))?;
-        let _sent = leader.next_request(state, &2, 8);
-        let response = Response::<K::Leader, K::Committed> {
-            leader_id: leader.leader_id(),
-            request: RequestNumber::InFlight(1),
-            outcome: Outcome::Matches(id::<K>(upto)),
-        };
-        leader.handle_response(&2, &response)?;
-        Ok(leader)
-    }
+/// A leader proposes the voters 1 and 2.
+fn change(allocation: Allocation, state: &mut Server) -> Result<bool, AllocError> {
+    let mut leader = in_memory(granted(state))?;
+    let ids: BTreeSet<u64> = [1, 2].iter().copied().collect(allocation.alloc)?;
+    allocation.refuse();
+    let made = leader.propose_change(state, ChangeMembers::ReplaceAllVoters(ids), false);
+    is_changed(allocation, made)
+}
 
-    /// The state that the call of a name borrows.
-    fn borrowed(alloc: Global, name: &str) -> Result<StateOf<K>, HandlerError> {
-        match name {
-            "Leader::leave_joint" => Led::<K>::joint(alloc),
-            "Leader::propose_change" => Ok(Led::<K>::committed(alloc)?.state),
-            _ => Ok(voter::<K>(alloc)?),
+/// A leader leaves a joint membership.
+fn leave(allocation: Allocation, state: &mut Server) -> Result<bool, AllocError> {
+    let mut leader = in_memory(granted(state))?;
+    allocation.refuse();
+    is_changed(allocation, leader.leave_joint(state, false))
+}
+
+/// Makes a call.
+fn make(allocation: Allocation, state: &mut Server, call: Call) -> Result<bool, AllocError> {
+    match call {
+        Call::Append => append(allocation, state),
+        Call::Install => install(allocation, state),
+        Call::Restart => restart(allocation),
+        Call::Start => start(allocation, state),
+        Call::Campaign => {
+            allocation.refuse();
+            is_done(allocation, campaign(state))
         }
-    }
-
-    /// A leader proposes an entry, blank or with data.
-    fn proposes(
-        allocation: Allocation,
-        state: &mut StateOf<K>,
-        is_blank: bool,
-    ) -> Result<bool, AllocError> {
-        let leader: LeaderOf<K> = in_memory(Leader::resume(1, state, 0))?;
-        allocation.refuse();
-        let made: Result<Entry<K>, ProposeError> = if is_blank {
-            leader.propose_blank(state)
-        } else {
-            leader.propose(state, 7)
-        };
-        is_done(allocation, made)
-    }
-
-    /// A leader proposes the voters 1 and 2.
-    fn changes(allocation: Allocation, state: &mut StateOf<K>) -> Result<bool, AllocError> {
-        let mut leader = in_memory(Led::<K>::granted(state, Some((3, 5))))?;
-        let ids: BTreeSet<u64> = [1, 2].iter().copied().collect(allocation.alloc)?;
-        allocation.refuse();
-        let made = leader.propose_change(state, ChangeMembers::ReplaceAllVoters(ids), false);
-        is_changed::<K>(allocation, made)
-    }
-
-    /// A leader leaves a joint membership.
-    fn leaves(allocation: Allocation, state: &mut StateOf<K>) -> Result<bool, AllocError> {
-        let mut leader = in_memory(Led::<K>::granted(state, Some((3, 6))))?;
-        allocation.refuse();
-        let made = leader.leave_joint(state, false);
-        is_changed::<K>(allocation, made)
-    }
-
-    /// Makes the call of a name.
-    fn call(
-        allocation: Allocation,
-        state: &mut StateOf<K>,
-        name: &str,
-    ) -> Result<bool, AllocError> {
-        match name {
-            "Candidate::campaign" => {
-                allocation.refuse();
-                is_done(allocation, Candidate::campaign(1, 5, state))
-            }
-            "Leader::resume" => {
-                allocation.refuse();
-                is_done(allocation, Leader::resume(1, state, 0))
-            }
-            "Leader::propose_blank" => Led::<K>::proposes(allocation, state, true),
-            "Leader::propose" => Led::<K>::proposes(allocation, state, false),
-            "Leader::propose_change" => Led::<K>::changes(allocation, state),
-            "Leader::leave_joint" => Led::<K>::leaves(allocation, state),
-            _ => Err(AllocError),
+        Call::Elect => elect(allocation),
+        Call::Resume => {
+            allocation.refuse();
+            is_done(allocation, Leader::resume(1, state, 0))
         }
+        Call::Blank => propose(allocation, state, true),
+        Call::Propose => propose(allocation, state, false),
+        Call::Change => change(allocation, state),
+        Call::Leave => leave(allocation, state),
     }
 }
 
-/// The state that the call of a name borrows.
-fn borrowed<K: LeaderKind<u64>>(alloc: Global, name: &str) -> Result<StateOf<K>, AllocError> {
-    in_memory(Led::<K>::borrowed(alloc, name))
-}
-
-/// Makes the call of a name.
-fn call<K: LeaderKind<u64>>(
-    allocation: Allocation,
-    state: &mut StateOf<K>,
-    name: &str,
-) -> Result<bool, AllocError> {
-    Led::<K>::call(allocation, state, name)
-}
-
-/// Whether the calls of a candidate and of a leader are right with each allocation refused in turn.
-///
-/// Over any kind of leader ids the closures of the state would get no proof of their borrows.
-fn is_leader_swept(rt: &impl Print, alloc: Global) -> io::Result<bool> {
-    let nothing = |_alloc: Global| Ok(());
-    let elects = |allocation: Allocation, _nothing: &mut ()| elect::<LeaderAdv>(allocation);
-    let mut is_right = is_swept(rt, alloc, "Leader::new", nothing, elects)?;
-    for name in [
-        "Candidate::campaign",
-        "Leader::resume",
-        "Leader::propose_blank",
-        "Leader::propose",
-        "Leader::propose_change",
-        "Leader::leave_joint",
-    ] {
-        let borrowed = |alloc: Global| borrowed::<LeaderAdv>(alloc, name);
-        let call = |allocation: Allocation, state: &mut State| {
-            call::<LeaderAdv>(allocation, state, name)
-        };
-        is_right &= is_swept(rt, alloc, name, borrowed, call)?;
+impl Led {
+    /// Commits the leader's own entry, and the joint membership on the way to the voters 1 and 2 if
+    /// there shall be one.
+    fn begin(&mut self, alloc: Global, is_joint: bool) -> Result<Id, HandlerError> {
+        let own = self.commit_upto(1, at(3, 4))?;
+        if !is_joint {
+            return Ok(own);
+        }
+        let joint = self.change(alloc, &[1, 2])?;
+        self.commit_upto(2, joint)
     }
-    Ok(is_right)
+}
+
+/// The state of a leader that has begun.
+fn led(alloc: Global, is_joint: bool) -> Result<Server, HandlerError> {
+    let mut led = Led::new(alloc)?;
+    led.begin(alloc, is_joint)?;
+    Ok(led.state)
+}
+
+/// The state that a call borrows.
+fn borrowed(alloc: Global, call: Call) -> Result<Server, AllocError> {
+    match call {
+        Call::Start => Server::try_default(alloc),
+        Call::Change => in_memory(led(alloc, false)),
+        Call::Leave => in_memory(led(alloc, true)),
+        _ => server(alloc),
+    }
+}
+
+/// Whether all calls are right with each allocation refused in turn.
+fn are_swept(rt: &impl Print, alloc: Global) -> io::Result<bool> {
+    let mut are_right = true;
+    for (call, name) in CALLS {
+        let call = *call;
+        let borrowed = |alloc: Global| borrowed(alloc, call);
+        let make = |allocation: Allocation, state: &mut Server| make(allocation, state, call);
+        are_right &= is_swept(rt, alloc, name, borrowed, make)?;
+    }
+    Ok(are_right)
 }
 
 #[test]
-fn allocations_of_a_leader(rt: HostRuntime) -> Result<(), Fail> {
-    assert!(rt; is_leader_swept(&rt, rt.alloc())?);
+fn allocations(rt: HostRuntime) -> Result<(), Fail> {
+    assert!(rt; are_swept(&rt, rt.alloc())?);
     Ok(())
 }
 
-/// Whether a leader that is elected in a state meets each row without an allocation. Prints a line.
-///
-/// No closure of `is_free_on`: it would have to show there what `fails` requires.
-fn is_life_free<K: LeaderKind<u64>>(
-    rt: &impl Print,
-    alloc: Global,
-    state: Result<StateOf<K>, SnapshotError>,
-    rows: &[(&'static str, Step, Right)],
-) -> io::Result<bool> {
+/// Whether a leader sends, takes responses and commits without an allocation.
+fn is_leader_free(rt: &impl Print, alloc: Global) -> io::Result<bool> {
     let name =
         "Leader::{next_request, heartbeat, handle_response, handle_flushed, give_up, commit}";
-    let mut led = in_memory(Led::<K>::new(in_memory(state)?))?;
+    let mut led = in_memory(Led::new(alloc))?;
     refuse_each(alloc);
-    let is_right = led.fails(rows).is_none();
+    let is_right = led.wrong_in_life().is_none();
     is_free(rt, alloc, name, is_right)
 }
 
-/// Whether a leader sends, takes responses and commits without an allocation, with all of its log,
-/// with a snapshot, and by heartbeats.
-fn is_leader_free<K: LeaderKind<u64>>(rt: &impl Print, alloc: Global) -> io::Result<bool> {
-    let whole = is_life_free::<K>(rt, alloc, Ok(voter::<K>(alloc)?), LIFE)?;
-    let snapshot = is_life_free::<K>(rt, alloc, snapshotted::<K>(alloc), SNAPSHOT)?;
-    let heartbeats = is_life_free::<K>(rt, alloc, Ok(voter::<K>(alloc)?), HEARTBEATS)?;
-    Ok([whole, snapshot, heartbeats] == [true; 3])
-}
-
 /// Whether a candidate counts votes and says how its election stands without an allocation.
-fn is_candidate_free<K: LeaderKind<u64>>(rt: &impl Print, alloc: Global) -> io::Result<bool> {
-    let mut state = voter::<K>(alloc)?;
-    let mut candidate = in_memory(Candidate::campaign(1, 5, &mut state))?;
+fn is_candidate_free(rt: &impl Print, alloc: Global) -> io::Result<bool> {
+    let mut state = server(alloc)?;
+    let mut candidate = in_memory(campaign(&mut state))?;
     refuse_each(alloc);
-    let is_elected = count::<K>(&mut candidate, &[(2, 6, true), (3, 6, true)]);
-    let is_right = is_elected && candidate.tally(&[]) == Tally::Won;
+    let is_right = is_elected(&mut candidate);
     is_free(
         rt,
         alloc,
@@ -321,12 +283,9 @@ fn is_candidate_free<K: LeaderKind<u64>>(rt: &impl Print, alloc: Global) -> io::
 #[test]
 fn no_allocations(rt: HostRuntime) -> Result<(), Fail> {
     let alloc = rt.alloc();
-    for row in ROWS {
-        let state = follower::<LeaderAdv>(alloc, None);
-        let vote = |state: &mut State| is_yes(answers::<LeaderAdv>(state, row));
-        assert!(rt; is_free_on(&rt, alloc, "handle_vote_request", state, vote)?);
-    }
-    assert!(rt; is_candidate_free::<LeaderAdv>(&rt, alloc)?);
-    assert!(rt; is_leader_free::<LeaderAdv>(&rt, alloc)?);
+    let votes = |state: &mut Server| grants(state, 2, at(2, 3));
+    assert!(rt; is_free_on(&rt, alloc, "handle_vote_request", server(alloc), votes)?);
+    assert!(rt; is_candidate_free(&rt, alloc)?);
+    assert!(rt; is_leader_free(&rt, alloc)?);
     Ok(())
 }

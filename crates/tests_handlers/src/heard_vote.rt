@@ -1,29 +1,27 @@
 //! A vote that a server hears in a response, and whether it is on disk before the server's next
 //! message leaves: five servers over standard Raft's leader ids.
 
-use raft_base::leader_id_std::{CommittedLeaderId, LeaderId};
-use raft_base::{EmptyNode, LogIdOf};
+use crate::candidate::Asking;
+use crate::states::{self, Append, Disk, Entry, Id};
+use raft_base::EmptyNode;
+use raft_base::leader_id_std::CommittedLeaderId;
 use raft_members::Membership;
 use raft_progress::InflightOf;
-use raft_state::{EntryOf, VoteStateReader};
+use raft_state::VoteStateReader;
 use std::alloc::{AllocError, Global};
 use std::mem;
 use std::test::Fail;
 use steps_handlers::{
-    AppendEntries, Candidate, Changes, HandlerError, Leader, Outcome, RequestNumber, State, Stored,
-    handle_append_entries, handle_vote_request, restart_server, start_cluster,
+    Candidate, Changes, HandlerError, Leader, Outcome, RequestNumber, handle_append_entries,
+    handle_vote_request, restart_server, start_cluster,
 };
-
-type Entry = EntryOf<CommittedLeaderId, u64, EmptyNode, u64>;
-
-type Asking = Candidate<u64, EmptyNode, LeaderId<u64>, CommittedLeaderId>;
 
 /// A server, whose steps collect in `unwritten` what its disk lacks.
 #[derive(Drop)]
 struct Server {
-    state: State<u64, EmptyNode, u64, LeaderId<u64>>,
+    state: states::Server,
     leader: Option<Leader<u64, EmptyNode, CommittedLeaderId>>,
-    disk: Stored<LeaderId<u64>, CommittedLeaderId, u64, EmptyNode, u64>,
+    disk: Disk,
     unwritten: Changes<CommittedLeaderId>,
 }
 
@@ -60,7 +58,7 @@ struct Cluster {
 }
 
 /// Returns the index after a log id, or 0.
-fn end(last: Option<LogIdOf<CommittedLeaderId>>) -> usize {
+fn end(last: Id) -> usize {
     last.map_or(0, |log_id| log_id.index.saturating_add(1) as usize)
 }
 
@@ -69,7 +67,7 @@ impl Cluster {
     fn new(alloc: Global, writes_heard: bool) -> Result<Self, HandlerError> {
         let mut servers = Vec::new(alloc);
         for id in 1..=5 {
-            let mut disk = Stored::try_default(alloc)?;
+            let mut disk = Disk::try_default(alloc)?;
             let mut state = restart_server(alloc, &disk)?;
             let nodes = (1..=5).map(|id| (id, EmptyNode::new())).collect(alloc)?;
             let members = Membership::from_nodes(alloc, nodes)?;
@@ -155,7 +153,7 @@ impl Cluster {
         };
         let before = end(log_id_range.prev).min(server.disk.entries.len());
         let (_, entries) = server.disk.entries.split_at(before);
-        let request = AppendEntries {
+        let request = Append {
             leader_id: server.state.vote_ref().leader_id,
             request: RequestNumber::InFlight(number),
             prev: log_id_range.prev,

@@ -1,542 +1,286 @@
-//! A leader of the voters 1, 2 and 3: what it sends, takes and commits.
+//! A leader of the voters 1, 2 and 3: what it sends, takes, commits and changes.
 
 use crate::asserts::assert_leader;
-use crate::snapshot::request;
-use crate::states::{Entry, Row, StateOf, id, voter};
-use raft_base::{EmptyNode, LeaderAdv, LeaderKind, LeaderStd, LogIdOf, VoteOf};
-use raft_progress::{InflightError, InflightOf, Progress};
+use crate::states::{Entry, Id, Server, at, server};
+use raft_base::leader_id_std::{CommittedLeaderId, LeaderId};
+use raft_base::{EmptyNode, VoteIn};
+use raft_members::ChangeMembers;
+use raft_progress::{InflightError, InflightOf};
 use std::alloc::{AllocError, Global};
+use std::collections::BTreeSet;
+use std::mem;
 use std::test::Fail;
 use steps_handlers::{
-    FlushError, HandlerError, Heartbeat, Leader, Outcome, ProposeError, RequestNumber, Response,
-    ResponseError, SnapshotError, handle_install_snapshot,
+    ChangeError, CommitError, HandlerError, Heartbeat, Leader, Outcome, RequestNumber, Response,
+    ResponseError,
 };
+use tests_support::facts::first_wrong;
 
-/// A leader over a kind of leader ids.
-pub type LeaderOf<K> = Leader<u64, EmptyNode, <K as LeaderKind<u64>>::Committed>;
+pub type LeaderOf = Leader<u64, EmptyNode, CommittedLeaderId>;
 
-/// A leader with its state. `F` is always its default, because a struct that names `Leader` in a
-/// field repeats its bounds.
+/// A leader with its state.
 #[derive(Drop)]
-pub struct Led<K: LeaderKind<u64>, F = LeaderOf<K>> {
-    pub state: StateOf<K>,
-    pub leader: F,
+pub struct Led {
+    pub state: Server,
+    pub leader: LeaderOf,
 }
 
-/// What happens to a leader.
-#[derive(Clone, Copy)]
-pub enum Step {
-    /// It may send to a node.
-    Send(u64),
-    /// It sends a heartbeat to a node.
-    Beat(u64),
-    /// A node acknowledges a request up to a row.
-    Take(u64, u64, Row),
-    /// A node's log conflicts with a request at an index, and is empty then.
-    Conflict(u64, u64, u64),
-    /// A node acknowledges a heartbeat with a number up to a row.
-    TakeBeat(u64, u64, Row),
-    /// A node's log conflicts with a heartbeat with a number at an index, and is empty then.
-    BeatConflict(u64, u64, u64),
-    /// A node has promised a higher vote.
-    Depose(u64),
-    /// A node acknowledges a request of the leader of term 2.
-    Foreign(u64, u64, Row),
-    /// The response of a node does not come.
-    GiveUp(u64),
-    /// Its log is on disk up to a row.
-    Flush(Row),
-    Commit,
-    /// It is asked whether a quorum has an entry of its own.
-    Own,
-    Propose,
-    /// It hears of a higher vote.
-    Promise,
-}
-
-/// What is right then.
-#[derive(Clone, Copy)]
-pub enum Right {
-    /// A request with this number has the log ids after a row up to another one.
-    Logs(u64, Row, Row),
-    /// A request with this number has the snapshot up to a row.
-    Snapshot(u64, Row),
-    Heartbeat,
-    /// A heartbeat with this number asks for a row.
-    Beat(u64, Row),
-    NoMember,
-    /// The log is committed up to this row then.
-    Commits(Row),
-    Done,
-    Nothing,
-    Refused(HandlerError),
-}
-
-/// What is sent, if it is right.
-fn sent<K: LeaderKind<u64>>(right: Right) -> Option<InflightOf<K::Committed>> {
-    match right {
-        Right::Logs(number, prev, last) => {
-            Some(InflightOf::logs(id::<K>(prev), id::<K>(last)).with_id(number))
-        }
-        Right::Snapshot(number, last) => {
-            Some(InflightOf::snapshot(id::<K>(last)).with_id(number))
-        }
-        Right::Heartbeat => Some(InflightOf::None),
-        _ => None,
-    }
-}
-
-/// What a heartbeat says, if it is right.
-fn beat<K: LeaderKind<u64>>(right: Right) -> Option<Heartbeat<K::Committed>> {
-    match right {
-        Right::Beat(number, prev) => Some(Heartbeat {
-            request: RequestNumber::Heartbeat(number),
-            prev: id::<K>(prev),
-        }),
-        _ => None,
-    }
-}
-
-/// What a commit returns, if it is right.
-fn committed<K: LeaderKind<u64>>(right: Right) -> Option<LogIdOf<K::Committed>> {
-    match right {
-        Right::Commits(upto) => id::<K>(upto),
-        _ => None,
-    }
-}
-
-/// Makes a state's node the leader again, which appends a blank entry (3, 5) and has it on disk.
-fn leader_of<K: LeaderKind<u64>>(state: &mut StateOf<K>) -> Result<LeaderOf<K>, HandlerError> {
+/// Makes the node of a state's vote the leader, with a blank entry of its own, which is on disk.
+pub fn leader_of(state: &mut Server) -> Result<LeaderOf, HandlerError> {
     let mut leader = Leader::resume(1, state, 0)?;
-    let _entry: Entry<K> = leader.propose_blank(state)?;
-    leader.handle_flushed(state, id::<K>(Some((3, 5))))?;
+    let own: Entry = leader.propose_blank(state)?;
+    leader.handle_flushed(state, Some(own.log_id))?;
     Ok(leader)
 }
 
-impl<K: LeaderKind<u64>> Led<K> {
-    /// The leader 1 of term 3, whose log is that of `voter` and a blank entry (3, 5), which is on
+/// A request with this number, which has the log ids after one up to another one.
+fn logs(number: u64, prev: Id, last: Id) -> Option<InflightOf<CommittedLeaderId>> {
+    Some(InflightOf::logs(prev, last).with_id(number))
+}
+
+/// The refusal of a response to another request than the one in flight.
+fn late(in_flight: u64, received: u64) -> Result<(), ResponseError> {
+    let mine = Some(in_flight);
+    Err(ResponseError::Inflight(InflightError::InvalidRequestId { mine, received }))
+}
+
+/// A heartbeat with this number, which asks for a log id.
+fn beat(number: u64, prev: Id) -> Option<Heartbeat<CommittedLeaderId>> {
+    let request = RequestNumber::Heartbeat(number);
+    Some(Heartbeat { request, prev })
+}
+
+impl Led {
+    /// The leader 1 of term 3, whose log is that of `server` and a blank entry (3, 4), which is on
     /// disk.
-    pub fn new(mut state: StateOf<K>) -> Result<Self, HandlerError> {
-        let leader = leader_of::<K>(&mut state)?;
+    pub fn new(alloc: Global) -> Result<Self, HandlerError> {
+        let mut state = server(alloc)?;
+        let leader = leader_of(&mut state)?;
         Ok(Led { state, leader })
     }
 
-    /// The leader leads on anew with its log, and has used no number past 7.
-    fn resume(&mut self) -> Result<(), HandlerError> {
-        self.leader = Leader::resume(1, &self.state, 7)?;
-        self.leader.handle_flushed(&self.state, id::<K>(END))?;
-        Ok(())
+    /// Returns what is sent to a node next.
+    pub fn send(&mut self, to: u64) -> Option<InflightOf<CommittedLeaderId>> {
+        self.leader.next_request(&self.state, &to, 64)
     }
 
-    /// Takes the response of a node to a request with a number.
-    fn respond(
-        &mut self,
-        from: u64,
-        request: RequestNumber,
-        outcome: Outcome<K::Leader, K::Committed>,
-    ) -> Result<(), ResponseError> {
-        let response = Response {
+    /// Returns the heartbeat to a node.
+    fn beat(&self, to: u64) -> Option<Heartbeat<CommittedLeaderId>> {
+        self.leader.heartbeat(&self.state, &to)
+    }
+
+    /// Takes the response of a node that matches up to a log id.
+    fn take(&mut self, from: u64, request: RequestNumber, upto: Id) -> Result<(), ResponseError> {
+        let response = Response::<LeaderId<u64>, CommittedLeaderId> {
             leader_id: self.leader.leader_id(),
             request,
-            outcome,
+            outcome: Outcome::Matches(upto),
         };
         self.leader.handle_response(&from, &response)
     }
 
-    /// Takes the response of a node to a request that was in flight.
-    pub fn take(
+    /// Takes the response of a node to a request that matches up to a log id.
+    pub fn matches(&mut self, from: u64, number: u64, upto: Id) -> Result<(), ResponseError> {
+        self.take(from, RequestNumber::InFlight(number), upto)
+    }
+
+    /// Takes the response of a node to a heartbeat that matches up to a log id.
+    fn beat_matches(&mut self, from: u64, number: u64, upto: Id) -> Result<(), ResponseError> {
+        self.take(from, RequestNumber::Heartbeat(number), upto)
+    }
+
+    fn commit(&mut self) -> Result<Id, CommitError> {
+        self.leader.commit(&mut self.state)
+    }
+
+    /// Gives up what is in flight to a node, and returns what is sent then.
+    fn send_again(&mut self, to: u64) -> Option<InflightOf<CommittedLeaderId>> {
+        self.leader.give_up(&to);
+        self.send(to)
+    }
+
+    /// Returns the name of the first fact of a leader's life that is wrong.
+    pub fn wrong_in_life(&mut self) -> Option<&'static str> {
+        let own = at(3, 4);
+        first_wrong(&[
+            ("all", self.send(2) == logs(1, None, own)),
+            ("one at a time", self.send(2) == Some(InflightOf::None)),
+            ("before its own", self.matches(2, 1, at(2, 3)) == Ok(())),
+            ("not by counting", self.commit() == Ok(None)),
+            ("its own", self.matches(2, 1, own) == Ok(())),
+            ("a quorum has it", self.commit() == Ok(own)),
+            ("another node", self.send(3) == logs(1, None, own)),
+            ("it is lost", self.send_again(3) == logs(2, None, own)),
+            ("a late response", self.matches(3, 1, own) == late(2, 1)),
+            ("a heartbeat", self.beat(3) == beat(2, at(2, 3))),
+            ("it matches", self.beat_matches(3, 2, own) == Ok(())),
+            ("no more", self.send(3) == Some(InflightOf::None)),
+            ("it leads", !self.leader.must_step_down(&self.state)),
+            ("a higher vote", self.state.promise(VoteIn::new(4, 2))),
+            ("then not", self.leader.must_step_down(&self.state)),
+        ])
+    }
+
+    /// Leads on, as after a restart, with requests after number 7. Returns the name of the first
+    /// fact that is wrong then.
+    fn wrong_after_restart(&mut self) -> Result<Option<&'static str>, HandlerError> {
+        let own = at(3, 4);
+        let late_beat = Err(ResponseError::LateHeartbeat);
+        self.leader = Leader::resume(1, &self.state, 7)?;
+        self.leader.handle_flushed(&self.state, own)?;
+        Ok(first_wrong(&[
+            ("a request", self.send(3) == logs(8, None, own)),
+            ("an earlier one", self.matches(3, 1, own) == late(8, 1)),
+            ("a heartbeat", self.beat(2) == beat(7, own)),
+            ("an earlier beat", self.beat_matches(2, 1, own) == late_beat),
+            ("not granted", self.commit() == Ok(None)),
+            ("its own", self.beat_matches(2, 7, own) == Ok(())),
+            ("a quorum has it", self.commit() == Ok(own)),
+        ]))
+    }
+
+    /// Changes the voters to these, if the leader may. Returns the log id of the new membership.
+    pub fn change(&mut self, alloc: Global, voters: &[u64]) -> Result<Id, AllocError> {
+        let ids: BTreeSet<u64> = voters.iter().copied().collect(alloc)?;
+        let change = ChangeMembers::ReplaceAllVoters(ids);
+        let made: Result<Entry, _> = self.leader.propose_change(&mut self.state, change, false);
+        Ok(proposed(&made))
+    }
+
+    /// Leaves a joint membership, if the leader may. Returns the log id of the new membership.
+    fn leave(&mut self) -> Id {
+        proposed(&self.leader.leave_joint(&mut self.state, false))
+    }
+
+    /// Writes all up to a log id to disk, sends it to node 2, takes its acknowledgement, and
+    /// commits. Returns what is committed then, if that is new.
+    pub fn commit_upto(&mut self, request: u64, upto: Id) -> Result<Id, HandlerError> {
+        self.leader.handle_flushed(&self.state, upto)?;
+        let _sent = self.send(2);
+        self.matches(2, request, upto)?;
+        Ok(self.commit()?)
+    }
+
+    /// Returns the name of the first fact that is wrong while node 3 leaves in two steps.
+    fn wrong_in_change(&mut self, alloc: Global) -> Result<Option<&'static str>, HandlerError> {
+        let early = self.change(alloc, &[1, 2])?;
+        self.commit_upto(1, at(3, 4))?;
+        let not_joint = self.leave();
+        let joint = self.change(alloc, &[1, 2])?;
+        let soon = self.leave();
+        let committed = self.commit_upto(2, at(3, 5))?;
+        let left = self.leave();
+        let end = self.commit_upto(3, at(3, 6))?;
+        Ok(first_wrong(&[
+            ("early", early.is_none()),
+            ("not joint", not_joint.is_none()),
+            ("joint", joint == at(3, 5)),
+            ("soon", soon.is_none()),
+            ("committed", committed == joint),
+            ("left", left == at(3, 6)),
+            ("the end", end == left),
+            ("a member", self.leader.member(&2).is_some()),
+            ("no member", self.leader.member(&3).is_none()),
+        ]))
+    }
+
+    /// A second leader of the term commits, changes the voters, and appends an entry.
+    fn go_on(&mut self, alloc: Global) -> Result<Entry, HandlerError> {
+        self.commit_upto(101, at(3, 4))?;
+        let joint = self.change(alloc, &[1, 2])?;
+        self.commit_upto(102, joint)?;
+        Ok(self.leader.propose(&mut self.state, 7)?)
+    }
+
+    /// Makes a second leader of the term, which goes on. Returns the name of the first fact that is
+    /// wrong with the former leader then.
+    fn wrong_with_former(&mut self, alloc: Global) -> Result<Option<&'static str>, HandlerError> {
+        self.commit_upto(1, at(3, 4))?;
+        let mut former = Leader::resume(1, &self.state, 100)?;
+        mem::swap(&mut self.leader, &mut former);
+        let _entry = self.go_on(alloc)?;
+        self.leader = former;
+        let not_effective = HandlerError::Commit(CommitError::NotEffective);
+        let refused = self.commit_upto(2, at(3, 6));
+        let changed = self.change(alloc, &[1, 3])?;
+        Ok(first_wrong(&[
+            ("a commit", refused == Err(not_effective)),
+            ("a change", changed.is_none()),
+            ("a step", self.leave().is_none()),
+            ("what is committed", self.state.committed == at(3, 5)),
+        ]))
+    }
+
+    /// Returns the name of the first fact that is wrong in a part of a leader's life.
+    fn wrong_in(
         &mut self,
-        from: u64,
-        request: u64,
-        outcome: Outcome<K::Leader, K::Committed>,
-    ) -> Result<(), ResponseError> {
-        self.respond(from, RequestNumber::InFlight(request), outcome)
-    }
-
-    /// Takes the response of a node to a heartbeat.
-    pub fn take_beat(
-        &mut self,
-        from: u64,
-        number: u64,
-        outcome: Outcome<K::Leader, K::Committed>,
-    ) -> Result<(), ResponseError> {
-        self.respond(from, RequestNumber::Heartbeat(number), outcome)
-    }
-
-    /// Appends an entry with data.
-    pub fn propose(&mut self) -> Result<Entry<K>, ProposeError> {
-        self.leader.propose(&mut self.state, 7)
-    }
-
-    /// Hears of a higher vote, and returns whether the leader must step down then, and not before.
-    fn promise(&mut self) -> bool {
-        let before = self.leader.must_step_down(&self.state);
-        let is_promised = self.state.promise(VoteOf::<u64, K>::new(4, 2));
-        let then = self.leader.must_step_down(&self.state);
-        (before, is_promised, then) == (false, true, true)
-    }
-
-    /// Takes the response of a node to a request of the leader of term 2.
-    fn take_foreign(&mut self, from: u64, request: u64, upto: Row) -> Result<(), ResponseError> {
-        let response = Response::<K::Leader, K::Committed> {
-            leader_id: K::new_committed(2, 2),
-            request: RequestNumber::InFlight(request),
-            outcome: Outcome::Matches(id::<K>(upto)),
-        };
-        self.leader.handle_response(&from, &response)
-    }
-
-    /// Makes a step that is done or refused.
-    fn make(&mut self, step: Step) -> Result<(), HandlerError> {
-        match step {
-            Step::Take(from, request, upto) => {
-                self.take(from, request, Outcome::Matches(id::<K>(upto)))?;
-            }
-            Step::Conflict(from, request, index) => {
-                self.take(from, request, Outcome::Conflict { index, last: None })?;
-            }
-            Step::TakeBeat(from, number, upto) => {
-                self.take_beat(from, number, Outcome::Matches(id::<K>(upto)))?;
-            }
-            Step::BeatConflict(from, number, index) => {
-                self.take_beat(from, number, Outcome::Conflict { index, last: None })?;
-            }
-            Step::Depose(from) => {
-                let vote = VoteOf::<u64, K>::new(4, 2);
-                self.take(from, 1, Outcome::HigherVote(vote))?;
-            }
-            Step::Foreign(from, request, upto) => self.take_foreign(from, request, upto)?,
-            Step::Flush(upto) => self.leader.handle_flushed(&self.state, id::<K>(upto))?,
-            Step::GiveUp(to) => self.leader.give_up(&to),
-            Step::Propose => {
-                let _entry = self.propose()?;
-            }
-            // `meets` compares what these return.
-            Step::Send(_) | Step::Beat(_) | Step::Commit | Step::Own | Step::Promise => (),
-        }
-        Ok(())
-    }
-
-    /// Whether a step has the right result.
-    fn meets(&mut self, step: Step, right: Right) -> bool {
-        match (step, right) {
-            (Step::Send(to), _) => {
-                self.leader.next_request(&self.state, &to, 8) == sent::<K>(right)
-            }
-            (Step::Beat(to), _) => self.leader.heartbeat(&self.state, &to) == beat::<K>(right),
-            (Step::Commit, _) => self.leader.commit(&mut self.state) == Ok(committed::<K>(right)),
-            (Step::Own, _) => self.leader.has_own_granted() == matches!(right, Right::Done),
-            (Step::Promise, _) => self.promise(),
-            (_, Right::Refused(refusal)) => self.make(step) == Err(refusal),
-            _ => self.make(step) == Ok(()),
+        alloc: Global,
+        part: Part,
+    ) -> Result<Option<&'static str>, HandlerError> {
+        match part {
+            Part::Life => Ok(self.wrong_in_life()),
+            Part::AfterRestart => self.wrong_after_restart(),
+            Part::Change => self.wrong_in_change(alloc),
+            Part::WithFormer => self.wrong_with_former(alloc),
         }
     }
 
-    /// What is wrong with what the leader shows of its members at the end of `LIFE`, if anything is.
-    fn wrong_members(&self) -> Option<&'static str> {
-        let matching = self.leader.member(&2).map(|entry| entry.matching);
-        let in_flight = self.leader.member(&3).map(|entry| entry.inflight);
-        let sending = InflightOf::logs(None, id::<K>(END)).with_id(2);
-        let are_right = [
-            matching == Some(id::<K>(END)),
-            in_flight == Some(sending),
-            self.leader.member(&9).is_none(),
-            self.leader.followers().progress().iter().count() == 3,
-        ];
-        (are_right != [true; 4]).then_some("the members")
-    }
-
-    /// Returns the name of the first row with another result.
-    pub fn fails(&mut self, rows: &[(&'static str, Step, Right)]) -> Option<&'static str> {
-        for (name, step, right) in rows {
-            if !self.meets(*step, *right) {
-                return Some(*name);
-            }
-        }
-        None
-    }
-
-    /// Returns what a failing row prints: what is wrong, and the leader as it is then.
-    pub fn shown(&self, alloc: Global, wrong: Option<&str>) -> Result<Option<String>, AllocError> {
-        match wrong {
+    /// Returns what is wrong in a part of a leader's life, and the leader as it is then.
+    fn shown(&mut self, alloc: Global, part: Part) -> Result<Option<String>, HandlerError> {
+        match self.wrong_in(alloc, part)? {
             Some(what) => Ok(Some(format!(in alloc; "{what}\n{}", self.leader)?)),
             None => Ok(None),
         }
     }
 }
 
-/// Responses to another request than that in flight.
-const LATE: Right = Right::Refused(HandlerError::Response(ResponseError::Inflight(
-    InflightError::InvalidRequestId {
-        mine: Some(2),
-        received: 1,
-    },
-)));
-
-const LATE_SNAPSHOT: Right = Right::Refused(HandlerError::Response(ResponseError::Inflight(
-    InflightError::InvalidRequestId {
-        mine: Some(3),
-        received: 2,
-    },
-)));
-
-const DOUBLED: Right = Right::Refused(HandlerError::Response(ResponseError::Inflight(
-    InflightError::InvalidRequestId {
-        mine: None,
-        received: 1,
-    },
-)));
-
-const PAST: Right = Right::Refused(HandlerError::Response(ResponseError::Inflight(
-    InflightError::AckOutOfRange,
-)));
-
-const TOO_LARGE: Right = Right::Refused(HandlerError::Response(ResponseError::Inflight(
-    InflightError::IndexTooLarge,
-)));
-
-const END: Row = Some((3, 5));
-
-/// What a leader meets that has all of its log.
-pub const LIFE: &[(&str, Step, Right)] = &[
-    ("all", Step::Send(2), Right::Logs(1, None, END)),
-    ("one request at a time", Step::Send(2), Right::Heartbeat),
-    ("no member", Step::Send(9), Right::NoMember),
-    ("past the request", Step::Take(2, 1, Some((3, 6))), PAST),
-    (
-        "a response of no member",
-        Step::Take(9, 1, END),
-        Right::Refused(HandlerError::Response(ResponseError::UnknownMember)),
-    ),
-    (
-        "a higher vote",
-        Step::Depose(2),
-        Right::Refused(HandlerError::Response(ResponseError::HigherVote)),
-    ),
-    (
-        "a response to an earlier leader",
-        Step::Foreign(2, 1, END),
-        Right::Refused(HandlerError::Response(ResponseError::Foreign)),
-    ),
-    (
-        "an earlier leader's",
-        Step::Take(2, 1, Some((2, 4))),
-        Right::Done,
-    ),
-    (
-        "nothing is committed by counting those",
-        Step::Commit,
-        Right::Nothing,
-    ),
-    ("none of its own is granted", Step::Own, Right::Nothing),
-    ("its own", Step::Take(2, 1, END), Right::Done),
-    ("its own is granted", Step::Own, Right::Done),
-    ("a doubled response", Step::Take(2, 1, END), DOUBLED),
-    ("its own are committed", Step::Commit, Right::Commits(END)),
-    ("only once", Step::Commit, Right::Nothing),
-    ("another node", Step::Send(3), Right::Logs(1, None, END)),
-    ("it is lost", Step::GiveUp(3), Right::Done),
-    ("it is sent again", Step::Send(3), Right::Logs(2, None, END)),
-    ("a late response", Step::Take(3, 1, END), LATE),
-    (
-        "past the log",
-        Step::Flush(Some((3, 6))),
-        Right::Refused(HandlerError::Flush(FlushError::NotLogged)),
-    ),
-    (
-        "the greatest index",
-        Step::Flush(Some((3, u64::MAX))),
-        Right::Refused(HandlerError::Flush(FlushError::NoNextIndex)),
-    ),
-    ("its state has a higher vote", Step::Promise, Right::Done),
-    (
-        "it leads no more",
-        Step::Propose,
-        Right::Refused(HandlerError::Propose(ProposeError::NotLeader)),
-    ),
-    (
-        "its disk may have another leader's entries",
-        Step::Flush(END),
-        Right::Refused(HandlerError::Flush(FlushError::NotLeader)),
-    ),
-];
-
-/// The response to a heartbeat before the last request.
-const LATE_HEARTBEAT: Right = Right::Refused(HandlerError::Response(ResponseError::LateHeartbeat));
-
-/// A conflict that would end the search below what matches.
-const BELOW: Right = Right::Refused(HandlerError::Response(ResponseError::Inflight(
-    InflightError::ConflictBelowMatching,
-)));
-
-/// The last log id before the leader's own.
-const OLD: Row = Some((2, 4));
-
-/// What a leader meets whose heartbeats are answered.
-pub const HEARTBEATS: &[(&str, Step, Right)] = &[
-    ("before any request", Step::Beat(2), Right::Beat(0, OLD)),
-    ("no member", Step::Beat(9), Right::NoMember),
-    ("a request", Step::Send(2), Right::Logs(1, None, END)),
-    ("a late match", Step::TakeBeat(2, 0, OLD), LATE_HEARTBEAT),
-    (
-        "a late conflict",
-        Step::BeatConflict(2, 0, 4),
-        LATE_HEARTBEAT,
-    ),
-    ("after the request", Step::Beat(2), Right::Beat(1, OLD)),
-    ("it matches", Step::TakeBeat(2, 1, OLD), Right::Done),
-    ("the request is dropped", Step::Take(2, 1, END), DOUBLED),
-    ("no own entry matches", Step::Commit, Right::Nothing),
-    ("the rest", Step::Send(2), Right::Logs(2, OLD, END)),
-    ("the rest matches", Step::TakeBeat(2, 2, END), Right::Done),
-    ("its own are committed", Step::Commit, Right::Commits(END)),
-    ("a lesser match", Step::TakeBeat(2, 2, OLD), Right::Done),
-    ("nothing more to send", Step::Send(2), Right::Heartbeat),
-    ("below the match", Step::BeatConflict(2, 2, 5), BELOW),
-    (
-        "the greatest index",
-        Step::TakeBeat(3, 0, Some((3, u64::MAX))),
-        TOO_LARGE,
-    ),
-    ("a conflict", Step::BeatConflict(3, 0, 4), Right::Done),
-    ("the search ends there", Step::Beat(3), Right::Beat(0, None)),
-    (
-        "a response of no member",
-        Step::TakeBeat(9, 0, END),
-        Right::Refused(HandlerError::Response(ResponseError::UnknownMember)),
-    ),
-];
-
-/// What a leader meets that leads on after a restart, and has used no number past 7.
-const RESUMED: &[(&str, Step, Right)] = &[
-    ("a request", Step::Send(3), Right::Logs(8, None, END)),
-    (
-        "a response from before the restart",
-        Step::Take(3, 1, END),
-        Right::Refused(HandlerError::Response(ResponseError::Inflight(
-            InflightError::InvalidRequestId {
-                mine: Some(8),
-                received: 1,
-            },
-        ))),
-    ),
-    ("another node", Step::Beat(2), Right::Beat(7, END)),
-    (
-        "a heartbeat from before it",
-        Step::TakeBeat(2, 1, END),
-        LATE_HEARTBEAT,
-    ),
-    ("its own are not granted", Step::Commit, Right::Nothing),
-    ("they match", Step::TakeBeat(2, 7, END), Right::Done),
-    ("a quorum has them", Step::Commit, Right::Commits(END)),
-];
-
-/// The row up to which there is a snapshot.
-const START: Row = Some((2, 2));
-
-/// What a leader meets whose log begins after a snapshot.
-pub const SNAPSHOT: &[(&str, Step, Right)] = &[
-    ("its log", Step::Send(2), Right::Logs(1, START, END)),
-    (
-        "the node has none of it",
-        Step::Conflict(2, 1, 2),
-        Right::Done,
-    ),
-    ("the snapshot", Step::Send(2), Right::Snapshot(2, START)),
-    ("one at a time", Step::Send(2), Right::Heartbeat),
-    ("it is lost", Step::GiveUp(2), Right::Done),
-    ("again", Step::Send(2), Right::Snapshot(3, START)),
-    ("a late response", Step::Take(2, 2, START), LATE_SNAPSHOT),
-    ("it is installed", Step::Take(2, 3, START), Right::Done),
-    (
-        "the entries after it",
-        Step::Send(2),
-        Right::Logs(4, START, END),
-    ),
-];
-
-/// Returns the name of the first row of a leader's life with another result, or what is seen of its
-/// members at the end if that is wrong: node 2 matches, and a request to node 3 is in flight. The
-/// leader is shown below it.
-fn life<K: LeaderKind<u64>>(alloc: Global) -> Result<Option<String>, HandlerError> {
-    let mut led = Led::<K>::new(voter::<K>(alloc)?)?;
-    let wrong = led.fails(LIFE);
-    Ok(led.shown(alloc, wrong.or(led.wrong_members()))?)
+/// The log id of an entry that a change has appended.
+fn proposed(made: &Result<Entry, ChangeError<CommittedLeaderId, u64>>) -> Id {
+    match made {
+        Ok(entry) => Some(entry.log_id),
+        Err(_) => None,
+    }
 }
 
-/// Installs the snapshot from which the leader's log begins.
-fn install<K: LeaderKind<u64>>(state: &mut StateOf<K>, alloc: Global) -> Result<(), SnapshotError> {
-    let _response = handle_install_snapshot(state, &request::<K>(alloc, 3, START)?)?;
-    Ok(())
+/// What a leader does.
+#[derive(Clone, Copy)]
+enum Part {
+    Life,
+    AfterRestart,
+    Change,
+    WithFormer,
 }
 
-/// The state of `voter` whose log begins after a snapshot.
-pub fn snapshotted<K: LeaderKind<u64>>(alloc: Global) -> Result<StateOf<K>, SnapshotError> {
-    let mut state = voter::<K>(alloc)?;
-    install::<K>(&mut state, alloc)?;
-    Ok(state)
-}
-
-/// Returns the name of the first row of a snapshot that is lost with another result, with the leader
-/// below it.
-fn lost_snapshot<K: LeaderKind<u64>>(alloc: Global) -> Result<Option<String>, HandlerError> {
-    let mut led = Led::<K>::new(snapshotted::<K>(alloc)?)?;
-    let wrong = led.fails(SNAPSHOT);
-    Ok(led.shown(alloc, wrong)?)
-}
-
-/// Returns the name of the first row of heartbeats with another result, with the leader below it.
-fn beats<K: LeaderKind<u64>>(alloc: Global) -> Result<Option<String>, HandlerError> {
-    let mut led = Led::<K>::new(voter::<K>(alloc)?)?;
-    let wrong = led.fails(HEARTBEATS);
-    Ok(led.shown(alloc, wrong)?)
-}
-
-/// Returns the name of the first row of a leader that leads on with another result, with the leader
-/// below it.
-fn resumes<K: LeaderKind<u64>>(alloc: Global) -> Result<Option<String>, HandlerError> {
-    let mut led = Led::<K>::new(voter::<K>(alloc)?)?;
-    led.resume()?;
-    let wrong = led.fails(RESUMED);
-    Ok(led.shown(alloc, wrong)?)
+/// Returns what is wrong in a part of a new leader's life, with the leader below it.
+fn wrong(alloc: Global, part: Part) -> Result<Option<String>, HandlerError> {
+    let mut led = Led::new(alloc)?;
+    led.shown(alloc, part)
 }
 
 #[test]
 fn a_leader_sends_and_commits(rt: HostRuntime) -> Result<(), Fail> {
-    assert_leader(&rt, "default leader ids", life::<LeaderAdv>(rt.alloc())?);
-    assert_leader(&rt, "standard leader ids", life::<LeaderStd>(rt.alloc())?);
-    Ok(())
-}
-
-#[test]
-fn heartbeats_raise_matches(rt: HostRuntime) -> Result<(), Fail> {
-    assert_leader(&rt, "default leader ids", beats::<LeaderAdv>(rt.alloc())?);
-    assert_leader(&rt, "standard leader ids", beats::<LeaderStd>(rt.alloc())?);
+    assert_leader(&rt, "a leader", wrong(rt.alloc(), Part::Life)?);
     Ok(())
 }
 
 #[test]
 fn a_leader_leads_on(rt: HostRuntime) -> Result<(), Fail> {
-    assert_leader(&rt, "default leader ids", resumes::<LeaderAdv>(rt.alloc())?);
     assert_leader(
         &rt,
-        "standard leader ids",
-        resumes::<LeaderStd>(rt.alloc())?,
+        "after a restart",
+        wrong(rt.alloc(), Part::AfterRestart)?,
     );
     Ok(())
 }
 
 #[test]
-fn a_lost_snapshot_is_sent_again(rt: HostRuntime) -> Result<(), Fail> {
-    assert_leader(
-        &rt,
-        "default leader ids",
-        lost_snapshot::<LeaderAdv>(rt.alloc())?,
-    );
-    assert_leader(
-        &rt,
-        "standard leader ids",
-        lost_snapshot::<LeaderStd>(rt.alloc())?,
-    );
+fn a_member_leaves_in_two_steps(rt: HostRuntime) -> Result<(), Fail> {
+    assert_leader(&rt, "a change", wrong(rt.alloc(), Part::Change)?);
+    Ok(())
+}
+
+#[test]
+fn a_former_leader_is_refused(rt: HostRuntime) -> Result<(), Fail> {
+    assert_leader(&rt, "a former leader", wrong(rt.alloc(), Part::WithFormer)?);
     Ok(())
 }

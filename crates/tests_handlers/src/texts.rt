@@ -1,217 +1,193 @@
-//! Texts of requests, responses, candidates and leaders, over standard Raft's leader ids.
+//! Texts of requests, responses, candidates, leaders and refusals.
 
 use crate::asserts::assert_right;
-use crate::candidate::candidate;
+use crate::candidate::{Asking, campaign, is_elected};
 use crate::leader::Led;
-use crate::snapshot::Install;
-use crate::states::{StateOf, entries, id, voter};
+use crate::states::{Id, Server, Snapshot, at, request, server};
+use raft_base::VoteIn;
 use raft_base::leader_id_std::{CommittedLeaderId, LeaderId};
-use raft_base::{EmptyNode, LeaderStd, VoteOf};
-use raft_state::SnapshotMetaOf;
+use raft_progress::InflightError;
 use std::alloc::{AllocError, Global};
-use std::fmt::Debug;
 use std::test::Fail;
 use steps_handlers::{
-    AppendEntries, HandlerError, Leader, Outcome, RequestNumber, Response, VoteRequest,
-    VoteResponse,
+    AppendError, CampaignError, ChangeError, CommitError, FlushError, HandlerError,
+    InstallSnapshot, LeadError, Outcome, ProposeError, RequestNumber, Response, ResponseError,
+    RestartError, ResumeError, SnapshotError, StartError, VoteRequest, VoteResponse,
 };
-use tests_support::facts::first_wrong;
+use tests_support::memory::with_made;
 use tests_support::printing::{debugs, displays};
 
-/// A request over standard Raft's leader ids.
-type Append = AppendEntries<LeaderId<u64>, CommittedLeaderId, u64, EmptyNode, u64>;
-
-/// What a request with a blank entry prints.
+/// The text of a request to append a blank entry.
 const APPEND: &str =
     "AppendEntries { leader_id: LeaderId { term: 3, voted_for: Some(1) }, request: InFlight(7), \
     prev: None, entries: [Entry { log_id: LogId { leader_id: CommittedLeaderId { term: 3 }, \
     index: 0 }, payload: blank }], committed: None }";
 
-/// What a request with an empty snapshot prints.
-const INSTALL: &str =
-    "InstallSnapshot { leader_id: LeaderId { term: 3, voted_for: Some(1) }, request: 8, \
-    meta: SnapshotMeta { last_log_id: None, last_membership: StoredMembership { log_id: None, \
-    membership: Membership { configs: [], nodes: {} } }, snapshot_id: \"\" } }";
+/// What messages display, one in each line.
+const MESSAGES: &str = "vote request T3-N1:uncommitted, last log id 2-4
+vote request T3-N1:uncommitted, last log id None
+vote response T3-N1:uncommitted, granted
+vote response T3-N1:uncommitted, refused
+append request 7, leader T3-N1, prev None, entries 1, committed None
+snapshot request 8, leader T3-N1, last log id None
+response 7, leader 3, matches 2-4
+response heartbeat 9, leader 3, conflict at 5, last index 3
+response 7, leader 3, higher vote T3-N1:uncommitted";
 
-/// How the text of a candidate begins.
-const CANDIDATE: &str =
-    "Candidate { id: 1, vote: Vote { leader_id: LeaderId { term: 6, voted_for: Some(1) }, \
-    committed: false }, last_log_id: Some(LogId { leader_id: CommittedLeaderId { term: 2 }, \
-    index: 4 }), votes: Tracked { membership: Membership { configs: [{1, 2, 3}], nodes: ";
-
-/// How the text of a leader begins.
-const LEADER: &str =
-    "Leader { id: 1, leader_id: CommittedLeaderId { term: 6 }, followers: Tracked { \
-    membership: Membership { configs: [{1, 2, 3}], nodes: ";
-
-/// What the candidate of term 6 displays, which all elect.
-const VOTES: &str = "candidate 1, vote T6-N1:uncommitted, last log id 2-4\n\
-    \x20 1 has voted\n\
-    \x20 2 has voted\n\
-    \x20 3 has voted";
+/// What the candidate of term 6 displays, which all but node 3 elect.
+const VOTES: &str = "candidate 1, vote T6-N1:uncommitted, last log id 2-3
+  1 has voted
+  2 has voted
+  3 has not voted";
 
 /// What a leader of term 3 displays, whose own entry only node 3 lacks.
-const MEMBERS: &str = "leader 1 of 3, granted 3-5\n\
-    \x20 1 ###### {[3-5, 6), inflight:None}\n\
-    \x20 2 ###### {[3-5, 6), inflight:None}\n\
-    \x20 3 ?????. {[None, 5), inflight:None}";
+const MEMBERS: &str = "leader 1 of 3, granted 3-4
+  1 ##### {[3-4, 5), inflight:None}
+  2 ##### {[3-4, 5), inflight:None}
+  3 ????. {[None, 4), inflight:None}";
 
-/// Whether the debug text of a value begins with a text.
-fn begins<T: Debug>(alloc: Global, value: &T, text: &str) -> bool {
-    match format!(in alloc; "{value:?}") {
-        Ok(said) => said.as_str().starts_with(text),
-        Err(_) => false,
-    }
+/// A refusal of each call.
+const REFUSALS: &[HandlerError] = &[
+    HandlerError::Append(AppendError::TruncatesCommitted),
+    HandlerError::Snapshot(SnapshotError::DoesNotFit),
+    HandlerError::Start(StartError::NotInMembers),
+    HandlerError::Restart(RestartError::CommittedNotLogged),
+    HandlerError::Campaign(CampaignError::NotVoter),
+    HandlerError::Lead(LeadError::NotElected),
+    HandlerError::Resume(ResumeError::NotLeader),
+    HandlerError::Propose(ProposeError::NotInOrder),
+    HandlerError::Flush(FlushError::NoNextIndex),
+    HandlerError::Response(ResponseError::LateHeartbeat),
+    HandlerError::Response(ResponseError::Inflight(InflightError::AckOutOfRange)),
+    HandlerError::Commit(CommitError::NotEffective),
+    HandlerError::OutOfMemory,
+];
+
+/// What they display, one in each line.
+const REASONS: &str = "a committed entry would be truncated
+the snapshot does not fit
+the server is not a member of the new cluster
+the committed log id is not in the log
+the node is no voter
+the candidate is not elected
+the vote is another one
+the entries are not in order
+there is no greater index
+the response is to a heartbeat before the last request
+ack out of range
+the leader counts by another membership
+out of memory";
+
+/// A vote request in term 3.
+fn asks(last_log_id: Id) -> VoteRequest<LeaderId<u64>, CommittedLeaderId> {
+    let vote = VoteIn::new(3, 1);
+    VoteRequest { vote, last_log_id }
 }
 
-/// Whether a request with a blank entry has its text.
-fn append_prints(alloc: Global) -> Result<bool, AllocError> {
-    let request = Append {
-        leader_id: VoteOf::<u64, LeaderStd>::new(3, 1).leader_id,
-        request: RequestNumber::InFlight(7),
-        prev: None,
-        entries: entries::<LeaderStd>(alloc, &[(3, 0)])?,
-        committed: None,
-    };
-    let text = "append request 7, leader T3-N1, prev None, entries 1, committed None";
-    Ok(debugs(alloc, &request, APPEND) && displays(alloc, &request, text))
-}
-
-/// Whether a request with an empty snapshot has its text.
-fn install_prints(alloc: Global) -> Result<bool, AllocError> {
-    let request = Install::<LeaderStd> {
-        leader_id: VoteOf::<u64, LeaderStd>::new(3, 1).leader_id,
-        request: 8,
-        meta: SnapshotMetaOf::try_default(alloc)?,
-    };
-    let text = "snapshot request 8, leader T3-N1, last log id None";
-    Ok(debugs(alloc, &request, INSTALL) && displays(alloc, &request, text))
-}
-
-/// A voter's response to the candidate 1 of term 3.
-fn vote_response(granted: bool) -> VoteResponse<LeaderId<u64>> {
-    let vote = VoteOf::<u64, LeaderStd>::new(3, 1);
+/// The response of a voter in term 3.
+fn votes(granted: bool) -> VoteResponse<LeaderId<u64>> {
+    let vote = VoteIn::new(3, 1);
     VoteResponse { vote, granted }
 }
 
 /// A response to a leader of term 3.
-fn response(
+fn responds(
     request: RequestNumber,
     outcome: Outcome<LeaderId<u64>, CommittedLeaderId>,
 ) -> Response<LeaderId<u64>, CommittedLeaderId> {
-    let leader_id = CommittedLeaderId::new(3, 1);
     Response {
-        leader_id,
+        leader_id: CommittedLeaderId { term: 3 },
         request,
         outcome,
     }
 }
 
-/// Returns the name of the first message that displays another text.
-fn wrong_message(alloc: Global) -> Option<&'static str> {
-    let vote = VoteOf::<u64, LeaderStd>::new(3, 1);
-    let last_log_id = id::<LeaderStd>(Some((2, 4)));
+/// The text of all messages.
+fn messages(alloc: Global) -> Result<String, AllocError> {
+    let append = request(alloc, 3, None, &[(3, 0)], None)?;
+    let install = InstallSnapshot {
+        leader_id: LeaderId::new(3, 1),
+        request: 8,
+        meta: Snapshot::try_default(alloc)?,
+    };
     let conflict = Outcome::Conflict {
         index: 5,
         last: Some(3),
     };
-    first_wrong(&[
-        (
-            "a vote request",
-            displays(
-                alloc,
-                &VoteRequest { vote, last_log_id },
-                "vote request T3-N1:uncommitted, last log id 2-4",
-            ),
-        ),
-        (
-            "a vote request with an empty log",
-            displays(
-                alloc,
-                &VoteRequest {
-                    vote,
-                    last_log_id: id::<LeaderStd>(None),
-                },
-                "vote request T3-N1:uncommitted, last log id None",
-            ),
-        ),
-        (
-            "a granted vote",
-            displays(
-                alloc,
-                &vote_response(true),
-                "vote response T3-N1:uncommitted, granted",
-            ),
-        ),
-        (
-            "a refused vote",
-            displays(
-                alloc,
-                &vote_response(false),
-                "vote response T3-N1:uncommitted, refused",
-            ),
-        ),
-        (
-            "a match",
-            displays(
-                alloc,
-                &response(RequestNumber::InFlight(7), Outcome::Matches(last_log_id)),
-                "response 7, leader 3, matches 2-4",
-            ),
-        ),
-        (
-            "a conflict",
-            displays(
-                alloc,
-                &response(RequestNumber::InFlight(8), conflict),
-                "response 8, leader 3, conflict at 5, last index 3",
-            ),
-        ),
-        (
-            "a higher vote",
-            displays(
-                alloc,
-                &response(RequestNumber::Heartbeat(9), Outcome::HigherVote(vote)),
-                "response heartbeat 9, leader 3, higher vote T3-N1:uncommitted",
-            ),
-        ),
-    ])
+    let number = RequestNumber::InFlight(7);
+    format!(in alloc;
+        "{}\n{}\n{}\n{}\n{append}\n{install}\n{}\n{}\n{}",
+        asks(at(2, 4)),
+        asks(None),
+        votes(true),
+        votes(false),
+        responds(number, Outcome::Matches(at(2, 4))),
+        responds(RequestNumber::Heartbeat(9), conflict),
+        responds(number, Outcome::HigherVote(VoteIn::new(3, 1))),
+    )
 }
 
-/// Whether the candidate of term 6, and the leader that it becomes, have their texts.
-fn node_prints(alloc: Global, state: &mut StateOf<LeaderStd>) -> Result<bool, HandlerError> {
-    let candidate = candidate::<LeaderStd>(state)?;
-    let leader = Leader::new(state, &candidate)?;
-    let are_right = [
-        begins(alloc, &candidate, CANDIDATE),
-        begins(alloc, &leader, LEADER),
-        displays(alloc, &candidate, VOTES),
-    ];
-    Ok(are_right == [true; 3])
-}
-
-/// Whether a leader displays its members.
-fn members_display(alloc: Global) -> Result<bool, HandlerError> {
-    let led = Led::<LeaderStd>::committed(alloc)?;
-    Ok(displays(alloc, &led.leader, MEMBERS))
-}
-
-#[test]
-fn requests_and_nodes_print(rt: HostRuntime) -> Result<(), Fail> {
-    let alloc = rt.alloc();
-    let mut state = voter::<LeaderStd>(alloc)?;
-    let are_right = [
-        append_prints(alloc) == Ok(true),
-        install_prints(alloc) == Ok(true),
-        node_prints(alloc, &mut state) == Ok(true),
-        members_display(alloc) == Ok(true),
-    ];
-    assert!(rt; are_right == [true; 4]);
-    Ok(())
+/// Returns the first wanted line of a text that is another one.
+fn other_line(made: &str, want: &'static str) -> Option<&'static str> {
+    let mut lines = made.lines();
+    for line in want.lines() {
+        if lines.next() != Some(line) {
+            return Some(line);
+        }
+    }
+    None
 }
 
 #[test]
 fn messages_display(rt: HostRuntime) -> Result<(), Fail> {
-    assert_right(&rt, "messages", wrong_message(rt.alloc()));
+    let made = messages(rt.alloc())?;
+    assert_right(&rt, "messages", other_line(made.as_str(), MESSAGES));
+    Ok(())
+}
+
+/// Returns the first text that is not that of its refusal.
+fn wrong_reason(alloc: Global) -> Option<&'static str> {
+    for (refusal, reason) in REFUSALS.iter().zip(REASONS.lines()) {
+        if !displays(alloc, refusal, reason) {
+            return Some(reason);
+        }
+    }
+    None
+}
+
+#[test]
+fn refusals_display(rt: HostRuntime) -> Result<(), Fail> {
+    assert_right(&rt, "refusals", wrong_reason(rt.alloc()));
+    let joint = ChangeError::<CommittedLeaderId, u64>::NotJoint;
+    assert!(rt; displays(rt.alloc(), &joint, "the membership is not joint"));
+    Ok(())
+}
+
+/// Whether the candidate of term 6 displays its votes.
+fn votes_display(state: &mut Server, alloc: Global) -> Result<bool, CampaignError> {
+    let mut candidate: Asking = campaign(state)?;
+    let _elected = is_elected(&mut candidate);
+    Ok(displays(alloc, &candidate, VOTES))
+}
+
+/// Whether a leader displays its members.
+fn members_display(alloc: Global) -> Result<bool, HandlerError> {
+    let mut led = Led::new(alloc)?;
+    led.commit_upto(1, at(3, 4))?;
+    Ok(displays(alloc, &led.leader, MEMBERS))
+}
+
+/// Whether a request to append a blank entry has its debug text.
+fn append_prints(alloc: Global) -> Result<bool, AllocError> {
+    Ok(debugs(alloc, &request(alloc, 3, None, &[(3, 0)], None)?, APPEND))
+}
+
+#[test]
+fn nodes_print(rt: HostRuntime) -> Result<(), Fail> {
+    let alloc = rt.alloc();
+    let votes = |state: &mut Server| votes_display(state, alloc);
+    assert!(rt; with_made(server(alloc), votes) == Ok(true));
+    assert!(rt; members_display(alloc) == Ok(true));
+    assert!(rt; append_prints(alloc) == Ok(true));
     Ok(())
 }

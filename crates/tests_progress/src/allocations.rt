@@ -10,7 +10,7 @@ use crate::support::progress_rows::{
 use crate::support::values::purged_log;
 use crate::tracked as worked;
 use crate::vec_progress::{rename, set};
-use raft_base::LeaderId;
+use raft_base::leader_id_std::CommittedLeaderId as Leader;
 use raft_members::quorum::{AtLeast, QuorumSet};
 use raft_progress::progress::{AnyStep, Progress, Reply, VecProgress, replay_any};
 use raft_progress::tracked::{Tracked, replay};
@@ -21,7 +21,7 @@ use tests_support::allocations::{
     Allocation, is_free, is_free_on, is_swept, is_swept_by, refuse_each,
 };
 use tests_support::memory::{both_made, clone_of};
-use tests_support::plain_log::{Numbered, PlainLog, id, log_below};
+use tests_support::plain_log::{PlainLog, id, log_below};
 
 /// Updates of the voters 1 to 3 and a learner 5, after which 3 alone is still at 0.
 const UPDATES: &str = "update 1 5 0; update 2 6 5; update 5 9 5";
@@ -321,14 +321,14 @@ fn no_allocations_of_progresses(rt: HostRuntime) -> Result<(), Fail> {
 
 /// Whether calls of entries, and searches, are as worked, over a log from 0 to 99, and over one
 /// from 0 to 20 that is to be purged up to index 4.
-fn searches_are_as_worked<C: Numbered>(log: &PlainLog<C>, purged: &PlainLog<C>) -> bool {
+fn searches_are_as_worked(log: &PlainLog<Leader>, purged: &PlainLog<Leader>) -> bool {
     let are_right = [
         wrong_in_entry(log, entry::HUNDRED).is_none(),
         wrong_in_entry(log, entry::READS).is_none(),
         wrong_in_entry(purged, entry::PURGED).is_none(),
         search::halves(log),
         search::ends_with_a_snapshot(purged, log),
-        entry::are_made::<C>(),
+        entry::are_made(),
     ];
     !are_right.contains(&false)
 }
@@ -342,13 +342,13 @@ fn no_allocations_of_searches(rt: HostRuntime) -> Result<(), Fail> {
         purged_log(alloc, 21, 4, id(1, 6)),
     );
     let of_searches = is_free_on(&rt, alloc, name, logs, |logs| {
-        searches_are_as_worked::<LeaderId<u64>>(&logs.0, &logs.1)
+        searches_are_as_worked(&logs.0, &logs.1)
     });
     assert_call(&rt, name, of_searches);
     let name = "Inflight, responses and reads";
     refuse_each(alloc);
-    let are_right = inflight::wrong_response::<LeaderId<u64>>().is_none();
-    let is_right = are_right && inflight::reads_back::<LeaderId<u64>>();
+    let are_right = inflight::wrong_response().is_none();
+    let is_right = are_right && inflight::reads_back();
     assert_call(&rt, name, is_free(&rt, alloc, name, is_right));
     Ok(())
 }

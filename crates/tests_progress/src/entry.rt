@@ -12,16 +12,14 @@ ghost use Rattle.std.specs.Prelude.{◌≡◌, IfSome, IsTrue, None, Ok, Some, f
 
 use crate::support::entry_rows::{compare, entry, in_flight};
 use crate::support::values::purged_log;
-use raft_base::leader_id_std::CommittedLeaderId;
-use raft_base::{LeaderId, LogIdOf, LogStateReader};
+use raft_base::leader_id_std::CommittedLeaderId as Leader;
+use raft_base::{LogIdOf, LogStateReader};
 use raft_members::quorum::QuorumSet;
 use raft_progress::entry::ProgressEntryOf;
 use raft_progress::inflight::InflightOf;
 use raft_progress::progress::{Progress, VecProgress};
-use std::alloc::Global;
-use std::process::Abort;
 use std::test::Fail;
-use tests_support::plain_log::{Numbered, id, log_below};
+use tests_support::plain_log::{id, log_below};
 
 /// Takes a follower's ack of all up to a log id. A match never falls, so neither the update nor the
 /// order of the progress needs a test.
@@ -134,21 +132,11 @@ const FALLING: &str = "5.4 5 0 -; send - 10 sent | 5.4 5 1 -; send - 10 sent | 5
 /// No send is allowed in a log that is to be purged up to the greatest index.
 const FAR: &str = "- 9 0 -; send - 3 no";
 
-/// Compares all calls over a kind of leaders.
-fn compare_all<C: Numbered>(rt: &impl Abort, alloc: Global) {
-    compare::<C>(rt, log_below(alloc, 100, None), HUNDRED);
-    compare::<C>(rt, log_below(alloc, 10, None), READS);
-    compare::<C>(rt, log_below(alloc, 10, None), TEN);
-    compare::<C>(rt, log_below(alloc, 8, id(5, 4)), FALLING);
-    compare::<C>(rt, purged_log(alloc, 21, 4, id(1, 6)), PURGED);
-    compare::<C>(rt, purged_log(alloc, 10, u64::MAX, None), FAR);
-}
-
 /// Whether entries are made as they should.
-pub fn are_made<C: Numbered>() -> bool {
-    let matched = ProgressEntryOf::<C>::new(id(1, 4)).with_curr_inflight_id(7);
+pub fn are_made() -> bool {
+    let matched = ProgressEntryOf::<Leader>::new(id(1, 4)).with_curr_inflight_id(7);
     matched.with_inflight(in_flight("1:1.5>1.9")) == entry("1.4 5 7 1:1.5>1.9")
-        && ProgressEntryOf::<C>::empty(100) == entry("- 100 0 -")
+        && ProgressEntryOf::<Leader>::empty(100) == entry("- 100 0 -")
 }
 
 /// Example progress 18. The search by probes at 47 and 15, and the search that ends at purge
@@ -158,7 +146,12 @@ pub fn are_made<C: Numbered>() -> bool {
 /// that an entry must keep.
 #[test]
 fn responses_and_sends_are_as_worked(rt: HostRuntime) -> Result<(), Fail> {
-    compare_all::<LeaderId<u64>>(&rt, rt.alloc());
-    compare_all::<CommittedLeaderId>(&rt, rt.alloc());
+    let alloc = rt.alloc();
+    compare::<Leader>(&rt, log_below(alloc, 100, None), HUNDRED);
+    compare::<Leader>(&rt, log_below(alloc, 10, None), READS);
+    compare::<Leader>(&rt, log_below(alloc, 10, None), TEN);
+    compare::<Leader>(&rt, log_below(alloc, 8, id(5, 4)), FALLING);
+    compare::<Leader>(&rt, purged_log(alloc, 21, 4, id(1, 6)), PURGED);
+    compare::<Leader>(&rt, purged_log(alloc, 10, u64::MAX, None), FAR);
     Ok(())
 }

@@ -7,7 +7,7 @@ ghost use Rattle.raft_progress.specs.progress.VecProgress.{view};
 ghost use Rattle.std.specs.Option.{option_cmp};
 ghost use Rattle.std.specs.Prelude.{◌≡◌, ◌<◌, ◌≤◌, ◌^◌, IsTrue, true};
 
-use raft_base::{LogIdOf, LogIdOptionExt, LogStateReader, Node, NodeId};
+use raft_base::{LogIdOf, LogIdOptionExt, LogStateReader};
 use raft_members::quorum::QuorumSet;
 use raft_progress::entry::ProgressEntryOf;
 use raft_progress::laws::{can_send_stays, granted_is_logged};

@@ -2,11 +2,11 @@
 
 use crate::support::asserts::assert_right;
 use crate::support::entry_rows::{in_flight, taken};
-use raft_base::leader_id_std::CommittedLeaderId;
-use raft_base::{LeaderId, Validate};
+use raft_base::Validate;
+use raft_base::leader_id_std::CommittedLeaderId as Leader;
 use raft_progress::inflight::{InflightOf, RequestId};
 use std::test::Fail;
-use tests_support::plain_log::{Numbered, id};
+use tests_support::plain_log::id;
 use tests_support::words::{log_id, number, words};
 
 /// What is in flight, and responses to it in turn, each with its request, the log id or index in
@@ -22,7 +22,7 @@ const RESPONSES: &str = "
 ";
 
 /// Takes a response. Returns whether it is answered as its row says.
-fn is_answered<C: Numbered>(inflight: &mut InflightOf<C>, row: &str) -> bool {
+fn is_answered(inflight: &mut InflightOf<Leader>, row: &str) -> bool {
     let [name, request, argument, want, left, ..] = words(row);
     let request = number(request);
     let wanted = if left.is_empty() {
@@ -39,10 +39,10 @@ fn is_answered<C: Numbered>(inflight: &mut InflightOf<C>, row: &str) -> bool {
 }
 
 /// Returns the first response that is answered wrong, if there is one.
-pub fn wrong_response<C: Numbered>() -> Option<&'static str> {
+pub fn wrong_response() -> Option<&'static str> {
     for line in RESPONSES.trim().lines() {
         let (first, rows) = line.split_once(';').unwrap_or((line, ""));
-        let mut inflight = in_flight::<C>(first);
+        let mut inflight = in_flight::<Leader>(first);
         for row in rows.split(';') {
             if !is_answered(&mut inflight, row) {
                 return Some(row);
@@ -53,15 +53,15 @@ pub fn wrong_response<C: Numbered>() -> Option<&'static str> {
 }
 
 /// Whether logs in flight read back.
-pub fn reads_back<C: Numbered>() -> bool {
-    let logs = InflightOf::<C>::logs(id(1, 2), id(1, 5)).with_id(7);
+pub fn reads_back() -> bool {
+    let logs = InflightOf::<Leader>::logs(id(1, 2), id(1, 5)).with_id(7);
     let are_right = [
         logs.get_id() == Some(7) && logs.id() == 7,
         logs.is_sending_log() && !logs.is_sending_snapshot(),
         logs.is_my_id(RequestId::AppendEntries { id: 7 }),
         logs.assert_my_id(7) == Ok(()),
         logs.validate() == Ok(()),
-        InflightOf::<C>::logs(id(1, 5), id(1, 5)).is_none(),
+        InflightOf::<Leader>::logs(id(1, 5), id(1, 5)).is_none(),
     ];
     !are_right.contains(&false)
 }
@@ -70,7 +70,6 @@ pub fn reads_back<C: Numbered>() -> bool {
 /// conflict.
 #[test]
 fn responses_are_answered_case_by_case(rt: HostRuntime) -> Result<(), Fail> {
-    assert_right(&rt, "responses", wrong_response::<LeaderId<u64>>());
-    assert_right(&rt, "responses", wrong_response::<CommittedLeaderId>());
+    assert_right(&rt, "responses", wrong_response());
     Ok(())
 }

@@ -11,20 +11,19 @@ ghost use Rattle.raft_progress.specs.progress.InOrder.{IsInOrder};
 ghost use Rattle.raft_progress.specs.progress.ProgressState.{IsSame};
 ghost use Rattle.raft_progress.specs.progress.ProgressView.{state};
 ghost use Rattle.raft_progress.specs.progress.ViewSteps.{IsViewStep};
-ghost use Rattle.raft_progress.specs.progress.Threshold.{QuorumReached, QuorumsHavePart, QuorumsShareVoter};
+ghost use Rattle.raft_progress.specs.progress.Threshold.{QuorumsHavePart, QuorumsShareVoter};
 ghost use Rattle.raft_progress.specs.progress.Updated.{IsNotLower};
 ghost use Rattle.raft_progress.specs.progress.VecProgress.{view};
 ghost use Rattle.raft_progress.specs.search.Purged.{IsPurgedWithin};
 ghost use Rattle.raft_progress.specs.search.Search.{CanSearch, stretch};
 ghost use Rattle.raft_progress.specs.tracked.Elected.{NoneVotedPast};
-ghost use Rattle.raft_progress.specs.tracked.Headline.{QuorumsKnowGranted};
 ghost use Rattle.raft_progress.specs.tracked.Known.{QuorumsKnow};
 ghost use Rattle.raft_progress.specs.tracked.Tracked.{tracked_view};
 ghost use Rattle.raft_progress.specs.tracked.TrackedViewSteps.{IsTrackedViewStep};
 ghost use Rattle.std.specs.List.{AllByRecursion};
 ghost use Rattle.std.specs.Ordering.{bool_cmp, nat_cmp};
 ghost use Rattle.std.specs.declared.cmp.Ordering.{Ordering};
-ghost use Rattle.std.specs.Prelude.{◌/◌, ◌<◌, ◌^◌, ◌↔◌, ◌≡◌, ◌≤◌, ◌⊎◌, Bool, IfOk, IsTrue, Option, Some, false, length, true, ℕ};
+ghost use Rattle.std.specs.Prelude.{◌/◌, ◌<◌, ◌^◌, ◌≡◌, ◌≤◌, Bool, IfOk, IsTrue, Option, Some, false, length, true, ℕ};
 ghost use Rattle.std.specs.Set.{ClonesAreEqual};
 
 use raft_base::{LogStateReader, Node, NodeId};
@@ -32,28 +31,14 @@ use raft_members::quorum::QuorumSet;
 use raft_members::{ChangeMembers, ChangeMembershipError};
 use raft_progress::entry::ProgressEntryOf;
 use raft_progress::laws::{
-    calls_are_runs, change_keeps_granted, clones_keep_order, counted_values_tie,
-    granted_is_threshold, granted_meet, kept_parts_keep_order, known_stays,
-    meeting_quorums_know_granted, none_purged_past, quorums_know_granted, tracked_calls_are_runs,
+    calls_are_runs, change_keeps_granted, clones_keep_order, counted_values_tie, granted_meet,
+    kept_parts_keep_order, known_stays, meeting_quorums_know_granted, none_purged_past,
+    quorums_know_granted, tracked_calls_are_runs,
 };
 use raft_progress::progress::{Progress, ProgressPart, Reply, VecProgress};
 use raft_progress::search::{SearchEvent, search_run};
 use raft_progress::tracked::{Step, Tracked, replay};
 use std::alloc::{AllocError, Global};
-
-/// Whether a part is granted: an index committed, a vote won, a quorum heard since a moment. It is
-/// exactly where it is at most the default's, or a quorum of the voters has reached it.
-fn is_granted<ID: Copy + Ord, V: ProgressPart<P>, P: Copy + Ord, QS: QuorumSet<ID>>(
-    progress: &VecProgress<ID, V, P, QS>,
-    part: P,
-) -> bool
-    requires { IsInOrder ID.eq P.cmp V.part_of QS.has_quorum (view progress.now) }
-    ensures { IsTrue result ↔ (AtMost P.cmp part (view progress.now).default_part
-        ⊎ QuorumReached P.cmp V.part_of QS.has_quorum (state ID.eq (view progress.now)) part) }
-{
-    granted_is_threshold::<ID, V, P, QS>();
-    part.cmp(progress.granted()).is_le()
-}
 
 /// Takes an ack, which is a step of a run: also of a follower, whose values have no order.
 pub fn acked<ID: Copy + Ord, V: ProgressPart<P> + Clone, P: Copy + Ord, QS: QuorumSet<ID>>(
@@ -211,16 +196,6 @@ fn conflicts_of<C: Ord + Copy, L: LogStateReader<C>>(
 {
     none_purged_past::<C, L>();
     search_run(entry, events)
-}
-
-/// What is granted of a membership and its progress, whether or not a replay has touched them: each
-/// quorum of the membership has a voter with at least that value.
-pub fn granted_now<NID: NodeId, N: Node>(cluster: &Tracked<NID, N, u64, u64>) -> u64
-    ensures quorums { QuorumsKnowGranted NID.eq nat_cmp (λ v. v) (tracked_view cluster.now) }
-    ensures granted { result ≡ (tracked_view cluster.now).progress.granted }
-{
-    quorums_know_granted(cluster);
-    *cluster.progress().granted()
 }
 
 /// Writes another value at an id, of the same part where it is a voter, and answers whether the id

@@ -7,6 +7,7 @@ use raft_base::LeaderId;
 use raft_progress::entry::ProgressEntry;
 use std::alloc::Global;
 use std::test::Fail;
+use tests_support::memory::{is_yes, with_made};
 use tests_support::printing::{debugs, displays};
 use tests_support::words::{number, words};
 
@@ -67,9 +68,9 @@ fn wrong_refusal(alloc: Global) -> Option<&'static str> {
 #[test]
 fn values_print(rt: HostRuntime) -> Result<(), Fail> {
     let alloc = rt.alloc();
-    let progress = lived(alloc, "0,1 6 0; update 1 3 0")?;
-    let is_right = displays(alloc, &progress, "{1: 3, 0: 0, 6: 0}");
-    assert_row(&rt, "a progress", is_right);
+    let made = lived(alloc, "0,1 6 0; update 1 3 0");
+    let is_right = with_made(made, |it| Ok(displays(alloc, it, "{1: 3, 0: 0, 6: 0}")));
+    assert_row(&rt, "a progress", is_yes(is_right));
     assert_right(&rt, "texts", wrong_text(alloc));
     assert_right(&rt, "refusals", wrong_refusal(alloc));
     let snapshot = in_flight::<LeaderId<u64>>("2:-");

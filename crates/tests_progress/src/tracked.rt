@@ -8,7 +8,7 @@ ghost use Rattle.std.specs.Ordering.{nat_cmp};
 ghost use Rattle.std.specs.Prelude.{◌≡◌, IfOk, List, Ok, ℕ};
 ghost use Rattle.std.specs.Set.{ClonesAreEqual};
 
-use crate::support::asserts::{assert_made, assert_row};
+use crate::support::asserts::assert_made;
 use crate::support::members::{TrackedNumbers, members};
 use crate::support::progress_rows::{has_entries, reply_of};
 use raft_base::{EmptyNode, Node, NodeId};
@@ -18,6 +18,7 @@ use raft_progress::progress::{Progress, ProgressPart, Reply};
 use raft_progress::tracked::{Step, Tracked, replay};
 use std::alloc::{AllocError, Global};
 use std::test::Fail;
+use tests_support::facts::first_wrong;
 use tests_support::memory::equals;
 use tests_support::words::{ids, number, words};
 
@@ -103,21 +104,36 @@ fn wrong_reply(
     Ok(has_more.then_some("more replies than steps"))
 }
 
+/// Returns what is wrong after the steps: a reply, or what they lead to.
+fn wrong_after(
+    alloc: Global,
+    cluster: &mut TrackedNumbers,
+) -> Result<Option<&'static str>, AllocError> {
+    let wrong = wrong_reply(alloc, cluster)?;
+    let stat = cluster.progress().stat();
+    let counts = [stat.update_count, stat.move_count];
+    let to = members(alloc, "1,2/1,2,3");
+    Ok(wrong.or(first_wrong(&[
+        (
+            "the entries",
+            has_entries(cluster.progress(), "2=7,1=5,3=4"),
+        ),
+        ("the counts", counts == [8, 6]),
+        ("the membership", equals(to, cluster.membership())),
+    ])))
+}
+
+/// Returns what is wrong after the steps of a new membership of the voters 1 and 2.
+fn wrong_in_replay(alloc: Global) -> Result<Option<&'static str>, AllocError> {
+    let mut cluster = Tracked::new(members(alloc, "1,2")?, 0)?;
+    wrong_after(alloc, &mut cluster)
+}
+
 /// Example progress 8. Voters 1 and 2, learner 3: ten steps in one list, of which half are
 /// refused. The replies and the end. A change counts each node as an update, and each that rises as
 /// a move.
 #[test]
 fn a_replay_goes_on_after_each_refusal(rt: HostRuntime) -> Result<(), Fail> {
-    let alloc = rt.alloc();
-    let mut cluster = Tracked::new(members(alloc, "1,2")?, 0)?;
-    assert_made(&rt, "replies", wrong_reply(alloc, &mut cluster));
-    let is_right = has_entries(cluster.progress(), "2=7,1=5,3=4")
-        && [
-            cluster.progress().stat().update_count,
-            cluster.progress().stat().move_count,
-        ] == [8, 6];
-    assert_row(&rt, "the end", is_right);
-    let is_joint = equals(members(alloc, "1,2/1,2,3"), cluster.membership());
-    assert_row(&rt, "the membership", is_joint);
+    assert_made(&rt, "a replay", wrong_in_replay(rt.alloc()));
     Ok(())
 }

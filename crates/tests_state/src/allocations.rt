@@ -7,7 +7,7 @@ use crate::support::asserts::assert_row;
 use crate::support::memory::try_equals;
 use crate::support::rows::{Row, effective, id, log_id, row};
 use crate::support::states::{follower, state};
-use crate::support::words::{edit, leads_to};
+use crate::support::words::edit;
 use raft_base::{LogId, LogStateReader, MessageSummary, VoteIn};
 use raft_members::{Membership, StoredMembership};
 use raft_state::{
@@ -15,7 +15,6 @@ use raft_state::{
     SnapshotMeta, is_key_list,
 };
 use std::alloc::{AllocError, Global};
-use std::io;
 use std::test::Fail;
 use tests_support::allocations::{Allocation, is_compared, is_free_on, is_swept};
 use tests_support::memory::both_made;
@@ -224,63 +223,29 @@ fn allocations_of_summaries(rt: HostRuntime) -> Result<(), Fail> {
     Ok(())
 }
 
-/// Reads of a list of the keys (1,1), (2,3) and (2,9), with their arguments and answers.
-const READS: &str = "
-get 2 1.2
-get 10 -
-first - 1.1
-last - 2.9
-key_log_ids - 1.1,2.3,2.9
-by_last_leader - 2.3,2.9
-can_append 2.10 true
-can_extend 2.10,2.11 true
-can_extend_same 2.10,2.11 true
-can_purge 1.12 false
-";
-
-/// Calls that truncate such a list and purge it, and the keys afterwards.
-const CUTS: &str = "
-truncate 5 1.1,2.3,2.4
-can_purge 2.3 true
-purge 2.3 2.3,2.4
-";
-
-/// The log ids of an argument and of an answer.
-type Ids = (Vec<LogId<u64>>, Vec<LogId<u64>>);
-
-/// The log ids of each row.
-fn ids_of(alloc: Global, rows: &str) -> Result<Vec<Ids>, AllocError> {
-    let mut all = Vec::new(alloc);
-    for row in rows.trim().lines() {
-        let [_, argument, answer, ..] = words(row);
-        all.extend(Some(both_made(log_ids(alloc, argument), log_ids(alloc, answer))?))?;
-    }
-    Ok(all)
+/// Whether a list of the keys (1,1), (2,3) and (2,9) reads as it should.
+fn are_read(list: &mut List) -> bool {
+    let next = log_id(2, 10);
+    let are_right = [
+        list.get(2) == Some(log_id(1, 2)),
+        list.first() == Some(&log_id(1, 1)),
+        list.last() == Some(&log_id(2, 9)),
+        list.key_log_ids().len() == 3,
+        list.by_last_leader().len() == 2,
+        list.can_append(next),
+        list.can_extend(&[next]),
+        list.can_extend_from_same_leader(&[next]),
+        !list.can_purge(&log_id(1, 12)),
+    ];
+    are_right == [true; 9]
 }
 
-/// Whether the calls of the rows lead to their answers in turn, and the list keeps its keys in
-/// order.
-fn all_lead(list: &mut List, rows: &str, all: &[Ids]) -> bool {
-    for (row, (ids, wanted)) in rows.trim().lines().zip(all) {
-        let [call, argument, answer, ..] = words(row);
-        let leads = leads_to(list, call, (argument, ids), (answer, wanted));
-        if !leads || !is_key_list(list.key_log_ids()) {
-            return false;
-        }
-    }
-    true
-}
-
-/// Whether the calls of the rows are right, and do not allocate.
-fn are_free(rt: &impl Print, alloc: Global, name: &str, rows: &str) -> io::Result<bool> {
-    let made = both_made(list(alloc, "1.1,2.3,2.9", 0), ids_of(alloc, rows));
-    is_free_on(
-        rt,
-        alloc,
-        name,
-        made,
-        |made| all_lead(&mut made.0, rows, &made.1),
-    )
+/// Whether such a list is truncated and purged as it should be.
+fn are_cut(list: &mut List) -> bool {
+    let upto = log_id(2, 3);
+    list.truncate(5);
+    let is_purged = list.can_purge(&upto) && list.purge(&upto) == Ok(());
+    is_purged && list.key_log_ids() == [upto, log_id(2, 4)].as_slice()
 }
 
 /// A state that is committed up to (3,4), and a snapshot up to there.
@@ -336,15 +301,15 @@ fn is_truncated(state: &mut State) -> bool {
 #[test]
 fn no_allocations(rt: HostRuntime) -> Result<(), Fail> {
     let alloc = rt.alloc();
-    let (reads, cuts) = (
-        "LogIdList, get, can_append and other reads",
-        "LogIdList, its cuts",
-    );
+    let reads = "LogIdList, get, can_append and other reads";
+    let keys = |alloc: Global| list(alloc, "1.1,2.3,2.9", 0);
+    let reads = is_free_on(&rt, alloc, reads, keys(alloc), are_read);
+    let cuts = is_free_on(&rt, alloc, "LogIdList, its cuts", keys(alloc), are_cut);
     let lists = is_compared(
         &rt,
         alloc,
         "LogIdList::eq",
-        list(alloc, "1.1,2.3,2.9", 0),
+        keys(alloc),
         list(alloc, "1.1,2.3", 0),
     );
     let data = Ok(Data::from_app_data(7));
@@ -355,8 +320,8 @@ fn no_allocations(rt: HostRuntime) -> Result<(), Fail> {
     let name = "RaftState::{build_snapshot, schedule_purge, promise, is_sound}";
     let built = is_free_on(&rt, alloc, name, built(alloc), |built| is_built(built));
     let are_right = [
-        are_free(&rt, alloc, reads, READS).unwrap_or(false),
-        are_free(&rt, alloc, cuts, CUTS).unwrap_or(false),
+        reads.unwrap_or(false),
+        cuts.unwrap_or(false),
         lists.unwrap_or(false),
         entries.unwrap_or(false),
         truncated.unwrap_or(false),

@@ -1,26 +1,37 @@
-//! Followers that are caught up with a leader's state.
+//! Followers that are caught up with a leader's state, over leader ids of a caller's own.
 
-use crate::over_kinds::{Test, assert_over_both};
-use crate::support::followers::{Followers, caught_up, followers};
+use crate::region::RegionLeader;
 use crate::support::rows::{Row, id};
-use crate::support::states::{NEW, State, VALID, log_of};
+use crate::support::states::{State, VALID, fill, log_of};
 use raft_base::LogStateReader;
-use raft_progress::{Progress, ProgressEntryOf};
+use raft_progress::{Progress, ProgressEntryOf, VecProgress};
+use raft_state::FollowersOf;
 use std::alloc::{AllocError, Global};
-use std::process::Abort;
 use std::test::Fail;
 use tests_support::allocations::{is_free, refuse_each};
-use tests_support::memory::both_made;
-use tests_support::plain_log::Numbered;
+use tests_support::memory::{both_made, with_made};
+use tests_support::words::list;
+
+type Leading = State<RegionLeader, RegionLeader>;
+
+/// The progress of followers.
+type Followers<C> = FollowersOf<C, u64, Vec<u64>>;
+
+/// How many of these followers a round catches up, if the progress is in order.
+fn caught_up<L: Drop, C: Ord + Copy + Drop + 'static>(
+    state: &State<L, C>,
+    followers: &mut Followers<C>,
+    agreed: &[(u64, u64)],
+) -> Option<u64> {
+    if !followers.is_in_order() {
+        return None;
+    }
+    Some(state.catch_up_all(followers, agreed, 10))
+}
 
 /// Whether a follower of which only the length of the log is known is caught up by so many
 /// conflicts and acks, or cannot be.
-fn catches_up<L: Drop, C: Ord + Copy + Drop>(
-    state: &State<L, C>,
-    length: u64,
-    agree: u64,
-    want: Option<(u64, u64)>,
-) -> bool {
+fn catches_up(state: &Leading, length: u64, agree: u64, want: Option<(u64, u64)>) -> bool {
     let mut follower = ProgressEntryOf::empty(length);
     if !state.can_catch_up(&follower, agree, 10) {
         return want == None;
@@ -33,9 +44,9 @@ fn catches_up<L: Drop, C: Ord + Copy + Drop>(
 }
 
 /// Whether a round catches up so many followers, after which this is granted.
-fn rounds<L: Drop, C: Numbered + Drop + 'static>(
-    state: &State<L, C>,
-    progress: &mut Followers<C>,
+fn rounds(
+    state: &Leading,
+    progress: &mut Followers<RegionLeader>,
     followers: &[(u64, u64)],
     want: u64,
     granted: Row,
@@ -45,7 +56,7 @@ fn rounds<L: Drop, C: Numbered + Drop + 'static>(
 
 /// Whether a follower alone is caught up as it should be, over a log of a hundred and over a purged
 /// one.
-fn alone_right<L: Drop, C: Ord + Copy + Drop>(state: &State<L, C>, purged: &State<L, C>) -> bool {
+fn alone_right(state: &Leading, purged: &Leading) -> bool {
     let are_right = [
         catches_up(state, 100, 70, Some((1, 6))),
         catches_up(state, 100, 0, Some((2, 10))),
@@ -57,10 +68,7 @@ fn alone_right<L: Drop, C: Ord + Copy + Drop>(state: &State<L, C>, purged: &Stat
 }
 
 /// Whether rounds over the voters 1, 2 and 3 and the learner 4 lead where they should.
-fn rounds_right<L: Drop, C: Numbered + Drop + 'static>(
-    state: &State<L, C>,
-    progress: &mut Followers<C>,
-) -> bool {
+fn rounds_right(state: &Leading, progress: &mut Followers<RegionLeader>) -> bool {
     let last = Some((1, 99));
     let are_right = [
         rounds(state, progress, &[(1, 70), (4, 0), (9, 3)], 2, None),
@@ -72,12 +80,12 @@ fn rounds_right<L: Drop, C: Numbered + Drop + 'static>(
 
 /// Whether followers are caught up as they should be, one alone and in rounds, without an
 /// allocation.
-fn are_caught_up<L: Drop, C: Numbered + Drop + 'static>(
+fn are_caught_up(
     rt: &impl Print,
     alloc: Global,
-    state: &State<L, C>,
-    purged: &State<L, C>,
-    progress: &mut Followers<C>,
+    state: &Leading,
+    purged: &Leading,
+    progress: &mut Followers<RegionLeader>,
 ) -> bool {
     refuse_each(alloc);
     let is_right = rounds_right(state, progress) && alone_right(state, purged);
@@ -85,17 +93,25 @@ fn are_caught_up<L: Drop, C: Numbered + Drop + 'static>(
     is_free(rt, alloc, name, is_right).unwrap_or(false)
 }
 
+/// The voters 1, 2 and 3 and the learner 4, of whose logs only the end 100 is known.
+fn followers(alloc: Global) -> Result<Followers<RegionLeader>, AllocError> {
+    let voters = list(alloc, "1,2,3")?;
+    if !Followers::<RegionLeader>::learners_fit(alloc, &voters, &[4])? {
+        return Err(AllocError);
+    }
+    VecProgress::new(alloc, voters, &[4], ProgressEntryOf::empty(100))
+}
+
 /// Whether followers are caught up so, by a state with a log of leader 1 from 0 to 99, and by one
 /// with a purged log.
-pub fn catches_up_right<L: Drop, C: Numbered + Drop + 'static>(
-    rt: &(impl Abort + Print),
+fn catches_up_right(
+    rt: &impl Print,
     alloc: Global,
-    state: &mut State<L, C>,
-    purged: &State<L, C>,
+    (state, purged): &mut (Leading, Leading),
 ) -> Result<bool, AllocError> {
-    let followers = followers(rt, alloc, &[4], 100);
-    let (log_ids, mut progress) = both_made(log_of(alloc, "1.0,1.99"), followers)?;
+    let (log_ids, mut progress) = both_made(log_of(alloc, "1.0,1.99"), followers(alloc))?;
     state.log_ids = log_ids;
+    fill(alloc, purged, VALID)?;
     Ok(are_caught_up(rt, alloc, state, purged, &mut progress))
 }
 
@@ -104,11 +120,8 @@ pub fn catches_up_right<L: Drop, C: Numbered + Drop + 'static>(
 /// granted is none, then (1, 99).
 #[test]
 fn followers_are_caught_up(rt: HostRuntime) -> Result<(), Fail> {
-    assert_over_both(
-        &rt,
-        rt.alloc(),
-        Test::CatchesUpRight,
-        [NEW, VALID, "1.0,1.99"],
-    )?;
+    let alloc = rt.alloc();
+    let states = both_made(Leading::try_default(alloc), Leading::try_default(alloc));
+    assert!(rt; with_made(states, |states| catches_up_right(&rt, alloc, states))?);
     Ok(())
 }

@@ -2,10 +2,10 @@
 //! 0.9.25, returned.
 //!
 //! The calls and the states were drawn at random, from a fixed seed, and a program that contains
-//! the original's own code made each call over both kinds of leader ids, with the same results. The
-//! states are compared over the default leader ids, and the memberships over both kinds. Calls
-//! outside of their preconditions are left out. In the original a state has no call that
-//! appends entries, truncates the log or installs a snapshot, so there are none of these here.
+//! the original's own code made each call over both kinds of leader ids, with the same results. Here
+//! they are compared over the default leader ids. Calls outside of their preconditions are left out.
+//! In the original a state has no call that appends entries, truncates the log or installs a
+//! snapshot, so there are none of these here.
 
 use crate::lives::make;
 use crate::membership_state::all_right;
@@ -13,8 +13,7 @@ use crate::support::asserts::assert_row;
 use crate::support::memory::put;
 use crate::support::states::{DefaultState, log_of, state};
 use crate::whole_state::{has_before, validates};
-use raft_base::leader_id_std::CommittedLeaderId;
-use raft_base::{LeaderId, LogStateReader};
+use raft_base::LogStateReader;
 use std::alloc::{AllocError, Global};
 use std::test::Fail;
 use tests_support::memory::{is_yes, with_made};
@@ -255,8 +254,5 @@ fn states_are_those_of_the_original(rt: HostRuntime) -> Result<(), Fail> {
 
 #[test]
 fn memberships_are_those_of_the_original(rt: HostRuntime) {
-    let default = all_right::<LeaderId<u64>>(&rt, rt.alloc(), MOVES);
-    assert_row(&rt, "default", default);
-    let standard = all_right::<CommittedLeaderId>(&rt, rt.alloc(), MOVES);
-    assert_row(&rt, "standard", standard);
+    assert_row(&rt, "moves", all_right(&rt, rt.alloc(), MOVES));
 }

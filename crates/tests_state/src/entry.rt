@@ -1,5 +1,4 @@
 //! Log entries.
-ghost use Rattle.std.specs.Prelude.{◌≡◌};
 
 use raft_base::{CommittedLeaderId, LogId, LogIdOf, RaftLogId};
 use raft_members::Membership;
@@ -19,7 +18,8 @@ fn are_as_made<C: Copy + Eq, E: RaftEntry<C, Members> + Drop>(
     membership: Result<Members, AllocError>,
 ) -> Result<bool, AllocError> {
     let blank = E::new_blank(log_id);
-    let stores = E::new_membership(log_id, membership?);
+    let mut stores = E::new_membership(log_id, membership?);
+    stores.set_log_id(&log_id);
     let are_right = [
         blank.is_blank(),
         blank.get_membership().is_none(),
@@ -29,18 +29,6 @@ fn are_as_made<C: Copy + Eq, E: RaftEntry<C, Members> + Drop>(
         *stores.get_log_id() == log_id,
     ];
     Ok(!are_right.contains(&false))
-}
-
-/// Whether an entry with a membership keeps it under another log id, over any entry type.
-fn keeps_membership<C: Copy + Eq, E: RaftEntry<C, Members> + Drop>(
-    entry: &mut E,
-    log_id: LogIdOf<C>,
-) -> bool
-    ensures membership { E.membership entry.new ≡ E.membership entry.old }
-    ensures blank { E.blank entry.new ≡ E.blank entry.old }
-{
-    entry.set_log_id(&log_id);
-    entry.get_membership().is_some() && !entry.is_blank() && *entry.get_log_id() == log_id
 }
 
 /// Whether an entry of a program's data has the default log id, and it and a blank one equal their

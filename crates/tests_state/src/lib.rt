@@ -3,10 +3,9 @@
 //!
 //! A file has the tests of the module of `raft_state` that has its name; those of the module
 //! `raft_state` are in `whole_state`. Those that go over several modules have the name of what they
-//! test: `clones`, `compared` and `compared_states` with the original, `allocations` for
-//! allocations that are refused, `laws` by their callers, short `lives` of one state, a kind of
-//! leaders by their `region`, and `texts`. What is to be shown over each kind of leader ids is run
-//! by `over_kinds`.
+//! test: `compared` and `compared_states` with the original, `allocations` for allocations that are
+//! refused, `laws` by their callers, short `lives` of one state, a kind of leaders by their
+//! `region`, and `texts`.
 #![tactic(auto)]
 
 #[cfg(test)]
@@ -15,8 +14,6 @@ mod accepted;
 mod allocations;
 #[cfg(test)]
 mod catch_up;
-#[cfg(test)]
-mod clones;
 #[cfg(test)]
 mod compared;
 #[cfg(test)]
@@ -35,8 +32,6 @@ mod lives;
 mod log_id_list;
 #[cfg(test)]
 mod membership_state;
-#[cfg(test)]
-mod over_kinds;
 #[cfg(test)]
 mod region;
 #[cfg(test)]

@@ -1,26 +1,25 @@
 //! The memberships of a node, and a change of the effective one.
 
 use crate::support::rows::{Effective, effective, id, row};
-use raft_base::leader_id_std::CommittedLeaderId;
-use raft_base::{Invalid, LeaderId, LogIdOf, LogIdOptionExt, Validate};
+use raft_base::{Invalid, LeaderId, LogId, Validate};
 use raft_members::{ChangeMembers, ChangeMembershipErrorOf, InProgressOf};
-use raft_state::MembershipStateOf;
+use raft_state::MembershipState;
 use std::alloc::{AllocError, Global};
 use std::collections::BTreeSet;
-use std::fmt::Debug;
 use std::rc::Rc;
 use std::test::Fail;
 use tests_support::allocations::{is_free, refuse_each};
 use tests_support::memory::{both_made, equals, is_yes, with_made};
-use tests_support::plain_log::Numbered;
 use tests_support::words::{ids, number, words};
 
-type State<C> = MembershipStateOf<C, u64, u64>;
+type State = MembershipState<u64, u64>;
+
+type Leader = LeaderId<u64>;
 
 /// The committed membership at leader 1, index 1, and the effective one at leader 2, index 10.
-pub fn state<C: Numbered + Drop>(alloc: Global) -> Result<State<C>, AllocError> {
+pub fn state(alloc: Global) -> Result<State, AllocError> {
     let committed = effective(alloc, Some((1, 1)), "1,2")?;
-    Ok(MembershipStateOf::new(committed, effective(alloc, Some((2, 10)), "2,3")?))
+    Ok(MembershipState::new(committed, effective(alloc, Some((2, 10)), "2,3")?))
 }
 
 /// Calls of these memberships. A row has the call, its argument, the log id and the voters of the
@@ -35,10 +34,7 @@ const MOVES: &str = "\
     append - 2.11 3 - 2.10 2.11 ok; append - 3.10 3 no; append - 1.11 3 no";
 
 /// The memberships of the rows.
-fn news<C: Numbered + Drop>(
-    alloc: Global,
-    rows: &str,
-) -> Result<Vec<Rc<Effective<C>>>, AllocError> {
+fn news(alloc: Global, rows: &str) -> Result<Vec<Rc<Effective<Leader>>>, AllocError> {
     let mut news = Vec::new(alloc);
     for move_row in rows.split(';') {
         let [_, _, at, voters, ..] = words(move_row);
@@ -48,7 +44,7 @@ fn news<C: Numbered + Drop>(
 }
 
 /// The log id of a membership that is answered.
-fn answered<C: Copy + Drop>(answer: Option<&Rc<Effective<C>>>) -> Option<LogIdOf<C>> {
+fn answered(answer: Option<&Rc<Effective<Leader>>>) -> Option<LogId<u64>> {
     match answer {
         Some(effective) => *effective.log_id(),
         None => None,
@@ -57,12 +53,12 @@ fn answered<C: Copy + Drop>(answer: Option<&Rc<Effective<C>>>) -> Option<LogIdOf
 
 /// Makes a call with its argument and a membership, and returns the log id that it answers, or
 /// `None` if it may not be made.
-fn make<C: Numbered + Drop>(
-    state: &mut State<C>,
-    new: Result<Rc<Effective<C>>, AllocError>,
+fn make(
+    state: &mut State,
+    new: Result<Rc<Effective<Leader>>, AllocError>,
     call: &str,
     argument: &str,
-) -> Result<Option<Option<LogIdOf<C>>>, AllocError> {
+) -> Result<Option<Option<LogId<u64>>>, AllocError> {
     let (index, upto) = (number(argument), id(row(argument)));
     let new = new?;
     match call {
@@ -82,11 +78,7 @@ fn make<C: Numbered + Drop>(
 
 /// Whether the memberships are at these log ids and in order as wanted. They equal those before
 /// exactly if both have the same log ids.
-fn are_at<C: Numbered + Drop>(
-    state: &State<C>,
-    from: &State<C>,
-    [committed, in_effect, valid]: [&str; 3],
-) -> bool {
+fn are_at(state: &State, from: &State, [committed, in_effect, valid]: [&str; 3]) -> bool {
     let is_in_order = match state.validate() {
         Ok(()) => valid == "ok",
         Err(broken) => valid == "no" && broken == Invalid::MembershipLogId,
@@ -101,10 +93,10 @@ fn are_at<C: Numbered + Drop>(
 }
 
 /// Whether a call leads where its row says.
-fn leads<C: Numbered + Drop>(
-    state: &mut State<C>,
-    from: &State<C>,
-    new: &Rc<Effective<C>>,
+fn leads(
+    state: &mut State,
+    from: &State,
+    new: &Rc<Effective<Leader>>,
     move_row: &str,
 ) -> Result<bool, AllocError> {
     let [call, argument, _, _, answer, committed, in_effect, valid, _] = words(move_row);
@@ -118,10 +110,10 @@ fn leads<C: Numbered + Drop>(
 }
 
 /// Whether each move leads where it should, and leaves the memberships that it is made from.
-fn move_right<C: Numbered + Drop>(
-    from: &State<C>,
-    same: &State<C>,
-    news: &[Rc<Effective<C>>],
+fn move_right(
+    from: &State,
+    same: &State,
+    news: &[Rc<Effective<Leader>>],
     rows: &str,
 ) -> Result<bool, AllocError> {
     for (row, new) in rows.split(';').zip(news) {
@@ -134,10 +126,7 @@ fn move_right<C: Numbered + Drop>(
 
 /// Whether a change, and the test before it, are refused while the effective membership is not
 /// committed.
-fn is_early<C: Numbered + Default + Debug + Drop>(
-    state: &State<C>,
-    added: Result<BTreeSet<u64>, AllocError>,
-) -> Result<bool, AllocError> {
+fn is_early(state: &State, added: Result<BTreeSet<u64>, AllocError>) -> Result<bool, AllocError> {
     let want = InProgressOf {
         committed: id(Some((1, 1))),
         membership_log_id: id(Some((2, 10))),
@@ -153,11 +142,11 @@ fn is_early<C: Numbered + Default + Debug + Drop>(
 
 /// Whether the memberships of a node move as they should, without an allocation because they are
 /// shared, and the effective one is changed as it should be.
-fn memberships_right<C: Numbered + Default + Debug + Drop>(
+fn memberships_right(
     rt: &impl Print,
     alloc: Global,
-    (from, same): &mut (State<C>, State<C>),
-    news: &[Rc<Effective<C>>],
+    (from, same): &mut (State, State),
+    news: &[Rc<Effective<Leader>>],
     rows: &str,
 ) -> Result<bool, AllocError> {
     refuse_each(alloc);
@@ -167,12 +156,8 @@ fn memberships_right<C: Numbered + Default + Debug + Drop>(
 }
 
 /// Whether new memberships of a node do so, with the moves of these rows.
-pub fn all_right<C: Numbered + Default + Debug + Drop>(
-    rt: &impl Print,
-    alloc: Global,
-    rows: &str,
-) -> bool {
-    let states = both_made(state::<C>(alloc), state::<C>(alloc));
+pub fn all_right(rt: &impl Print, alloc: Global, rows: &str) -> bool {
+    let states = both_made(state(alloc), state(alloc));
     let held = both_made(states, news(alloc, rows));
     is_yes(with_made(
         held,
@@ -185,7 +170,6 @@ pub fn all_right<C: Numbered + Default + Debug + Drop>(
 #[test]
 fn memberships_move(rt: HostRuntime) -> Result<(), Fail> {
     let alloc = rt.alloc();
-    assert!(rt; all_right::<LeaderId<u64>>(&rt, alloc, MOVES));
-    assert!(rt; all_right::<CommittedLeaderId>(&rt, alloc, MOVES));
+    assert!(rt; all_right(&rt, alloc, MOVES));
     Ok(())
 }

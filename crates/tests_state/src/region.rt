@@ -6,12 +6,9 @@ ghost use Rattle.std.specs.Cmp.{po};
 ghost use Rattle.std.specs.Ordering.{nat_cmp};
 ghost use Rattle.std.specs.Prelude.{◌/◌, Some, refl};
 
-use crate::over_kinds::{Test, assert_over};
-use crate::support::states::{NEW, VALID};
 use raft_base::{LeaderIdentity, LeaderKind};
 use std::cmp::Ordering;
 use std::fmt;
-use std::test::Fail;
 use tests_support::plain_log::Numbered;
 
 /// Identifies a leader: the term, and the node with the region that it stands in.
@@ -120,11 +117,4 @@ impl LeaderKind<u64> for Regions {
     type Leader = RegionLeader;
 
     type Committed = RegionLeader;
-}
-
-#[test]
-fn leaders_of_ones_own_will_do(rt: HostRuntime) -> Result<(), Fail> {
-    let alloc = rt.alloc();
-    assert_over::<RegionLeader, _>(&rt, alloc, Test::CatchesUpRight, [NEW, VALID, "1.0,1.99"])?;
-    Ok(())
 }

@@ -1,8 +1,7 @@
-//! What tests share: assertions, examples as rows of words, states, followers, and values that are
-//! dropped at little cost.
+//! What the tests share: whole states by rows of words, the words of other rows, and values that
+//! are dropped at little cost.
 
 pub mod asserts;
-pub mod followers;
 pub mod memory;
 pub mod rows;
 pub mod states;

@@ -12,21 +12,20 @@ ghost use Rattle.std.specs.List.{list_all};
 ghost use Rattle.std.specs.Prelude.{◌≡◌, IfOk, IfSome, IsTrue, None, OnErr, false, slice_get};
 
 use crate::laws::send;
-use crate::over_kinds::{Test, assert_over_both};
 use crate::support::asserts::assert_row;
-use crate::support::rows::{Row, id, row};
-use crate::support::states::{DefaultState, NEW, StandardState, State, VALID, fill, state};
+use crate::support::rows::{Row, id};
+use crate::support::states::{DefaultState, StandardState, State, VALID, fill, state};
 use raft_base::order::log_id_at_most;
 use raft_base::{
-    Instant, LeaderIdentity, LogId, LogIdRangeOf, LogStateReader, Node, NodeId, RaftLogId,
-    ServerState, UTime, Validate, VoteIn, leader_id_std,
+    Instant, LeaderId, LeaderIdentity, LogId, LogIdRangeOf, LogStateReader, Node, NodeId,
+    RaftLogId, ServerState, UTime, Validate, VoteIn, leader_id_std,
 };
 use raft_members::quorum::QuorumSet;
 use raft_progress::{InflightOf, Progress, ProgressEntryOf};
 use raft_state::{FollowersOf, ForwardToLeader, RaftStateIn};
 use std::alloc::{AllocError, Global};
 use std::test::Fail;
-use tests_support::allocations::{is_free, refuse_each};
+use tests_support::allocations::is_free_on;
 use tests_support::memory::{equals, is_yes, with_made};
 use tests_support::plain_log::Numbered;
 use tests_support::printing::debugs;
@@ -86,11 +85,7 @@ fn lacking<'a, NID: NodeId, N: Node, I: Instant, L: Drop, C: Ord + Copy + Drop, 
 const RELATIONS: &str = "2 1.1 1.1 - - - ok; 3 1.1 1.1 - - - PurgedNext; 2 3.0 3.4 - - - ok";
 
 /// Whether the state of a row is found valid, or its first broken relation has the row's name.
-pub fn validates<L: Drop, C: Numbered + Drop>(
-    alloc: Global,
-    state: &State<L, C>,
-    row: &str,
-) -> bool {
+pub fn validates(alloc: Global, state: &DefaultState, row: &str) -> bool {
     let [_, _, _, _, _, _, name, ..] = words(row);
     match state.validate() {
         Ok(()) => name == "ok",
@@ -122,15 +117,8 @@ const FIRST: Row = Some((1, 1));
 
 const LAST: Row = Some((3, 4));
 
-/// Whether the valid state reads as it should, and equals itself and no other, without an
-/// allocation.
-pub fn reads_right<L: Eq + Drop, C: Numbered + Drop>(
-    rt: &impl Print,
-    alloc: Global,
-    state: &State<L, C>,
-    other: &State<L, C>,
-) -> bool {
-    refuse_each(alloc);
+/// Whether the valid state reads as it should, and equals itself.
+fn reads_right(state: &mut DefaultState) -> bool {
     let are_right = [
         state.get_log_id(2) == id(Some((1, 2))),
         state.prev_log_id(5) == id(LAST),
@@ -139,11 +127,14 @@ pub fn reads_right<L: Eq + Drop, C: Numbered + Drop>(
         state.is_purged_or_logged(&id(LAST)),
         state.validate() == Ok(()),
         *state == *state,
-        *state != *other,
     ];
-    let is_right = !are_right.contains(&false);
-    let name = "RaftState::{validate, eq}, get_log_id and other reads";
-    is_free(rt, alloc, name, is_right).unwrap_or(false)
+    are_right == [true; 7]
+}
+
+/// Whether a state is another one than a new state.
+fn is_not_new(alloc: Global, state: &DefaultState) -> Result<bool, AllocError> {
+    let new = DefaultState::try_default(alloc)?;
+    Ok(*state != new)
 }
 
 /// Whether a state has as many entries as wanted before the first one that it lacks.
@@ -160,53 +151,51 @@ pub fn has_before(
     Ok(entries.len() as u64 == lacking.saturating_add(number(want)))
 }
 
-/// Whether the valid state commits its last log id once, without an allocation.
-pub fn commits<L: Drop, C: Numbered + Drop>(
-    rt: &impl Print,
-    alloc: Global,
-    state: &mut State<L, C>,
-) -> bool {
-    refuse_each(alloc);
+/// Whether the valid state commits its last log id once.
+fn commits(state: &mut DefaultState) -> bool {
     let last = id(LAST);
-    let is_new = state.can_commit(&last)
+    state.can_commit(&last)
         && state.update_committed(&last) == Ok(Some(id(FIRST)))
         && state.can_commit(&last)
-        && state.update_committed(&last) == Ok(None);
-    is_free(rt, alloc, "RaftState::update_committed", is_new).unwrap_or(false)
+        && state.update_committed(&last) == Ok(None)
 }
 
-/// Votes by term and node, the node to which requests are forwarded, with its id and what it is,
-/// and the role of the node 3. The voters are 1 and 2, and 3 is a learner.
-const LEADS: &str = "1.3 3 6 Leader; 1.9 - - Learner";
-
-/// Whether the valid state leads with a committed vote as a row says. The node 1 is a follower.
+/// Whether a state whose voters are 1 and 2, and whose node 3 is a learner, leads with a committed
+/// vote: requests are forwarded to this node with what it is, the node 1 is a follower, and the node
+/// 3 has this role.
 fn leads_with<
     L: LeaderIdentity<Id = u64, Committed = C> + Drop,
     C: Numbered + Default + Drop + 'static,
->(alloc: Global, state: &mut State<L, C>, leader_id: L, row: &str) -> bool {
-    let [_, node_id, node, role, ..] = words(row);
+>(
+    state: &mut State<L, C>,
+    leader_id: L,
+    (node_id, leader_node): (Option<u64>, Option<u64>),
+    role: ServerState,
+) -> bool {
     let committed = true;
     state.vote = UTime::without_utime(VoteIn {
         leader_id,
         committed,
     });
     let forward = ForwardToLeader {
-        leader_id: node_id.parse::<u64>().ok(),
-        leader_node: node.parse::<u64>().ok(),
+        leader_id: node_id,
+        leader_node,
     };
     equals(state.forward_to_leader(), &forward)
         && state.calc_server_state(&1) == ServerState::Follower
-        && debugs(alloc, &state.calc_server_state(&3), role)
+        && state.calc_server_state(&3) == role
 }
 
-/// Whether the valid state leads with the vote of a row as the row says.
-pub fn leads<
-    L: LeaderIdentity<Id = u64, Committed = C> + Drop,
-    C: Numbered + Default + Drop + 'static,
->(alloc: Global, state: &mut State<L, C>, of: &str) -> bool {
-    let [vote, ..] = words(of);
-    let (term, node) = row(vote).unwrap_or((0, 0));
-    leads_with(alloc, state, L::new_leader(term, node), of)
+/// Whether the valid state leads with a vote for the node 3, and with one for no member.
+fn leads(state: &mut DefaultState) -> bool {
+    let to = (Some(3), Some(6));
+    leads_with(state, LeaderId::new(1, 3), to, ServerState::Leader)
+        && leads_with(
+            state,
+            LeaderId::new(1, 9),
+            (None, None),
+            ServerState::Learner,
+        )
 }
 
 /// Whether a committed vote of term 1 for nobody leads no one.
@@ -216,7 +205,7 @@ fn nobody_leads(alloc: Global, state: &mut StandardState) -> Result<bool, AllocE
         term: 1,
         voted_for: None,
     };
-    Ok(leads_with(alloc, state, leader_id, "1 - - Learner"))
+    Ok(leads_with(state, leader_id, (None, None), ServerState::Learner))
 }
 
 /// Example state 3. Keys (1, 1), (3, 4), the valid state; `purged_next` 3; purge point (3, 0),
@@ -224,7 +213,9 @@ fn nobody_leads(alloc: Global, state: &mut StandardState) -> Result<bool, AllocE
 #[test]
 fn a_state_validates_and_is_sound(rt: HostRuntime) -> Result<(), Fail> {
     for row in RELATIONS.split(';') {
-        assert_over_both(&rt, rt.alloc(), Test::Validates, [row, NEW, row])?;
+        let made = state(rt.alloc(), row);
+        let is_right = with_made(made, |state| Ok(validates(rt.alloc(), state, row)));
+        assert_row(&rt, row, is_yes(is_right));
     }
     for (row, want) in &SOUND {
         let made = state(rt.alloc(), row);
@@ -239,11 +230,17 @@ fn a_state_validates_and_is_sound(rt: HostRuntime) -> Result<(), Fail> {
 #[test]
 fn a_state_reads_and_leads(rt: HostRuntime) -> Result<(), Fail> {
     let alloc = rt.alloc();
-    assert_over_both(&rt, alloc, Test::ReadsRight, [VALID, NEW, VALID])?;
-    assert_over_both(&rt, alloc, Test::Commits, [VALID, NEW, VALID])?;
-    for row in LEADS.split(';') {
-        assert_over_both(&rt, alloc, Test::Leads, [VALID, NEW, row])?;
-    }
+    let name = "RaftState::{validate, eq}, get_log_id and other reads";
+    assert!(rt; is_free_on(&rt, alloc, name, state(alloc, VALID), reads_right)?);
+    assert!(rt; with_made(state(alloc, VALID), |state| is_not_new(alloc, state))?);
+    let name = "RaftState::update_committed";
+    assert!(rt; is_free_on(&rt, alloc, name, state(alloc, VALID), commits)?);
+    assert!(rt;
+        with_made(
+            state(alloc, VALID),
+            |state| Ok::<_, AllocError>(leads(state))
+        )?
+    );
     let standard = StandardState::try_default(alloc);
     assert!(rt; with_made(standard, |state| nobody_leads(alloc, state))?);
     Ok(())

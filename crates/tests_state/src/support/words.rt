@@ -72,7 +72,7 @@ fn keys<'a, C: Ord + Copy>(list: &'a LogIdListOf<C>, call: &str) -> Option<&'a [
 }
 
 /// Whether a call with these log ids leads to the answer, or the list to these keys.
-pub fn leads_to<C: Ord + Copy>(
+fn leads_to<C: Ord + Copy>(
     list: &mut LogIdListOf<C>,
     call: &str,
     argument: (&str, &[LogIdOf<C>]),
