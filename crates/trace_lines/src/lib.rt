@@ -1,14 +1,18 @@
 //! Reads the lines of an input, one after the other.
 //!
-//! A caller hands an input and a list of bytes to `read_line`, once for each line. The call returns
-//! whether the line is the last one. Its contract says which bytes the line has, and which bytes of
-//! the input are left.
+//! A `LineReader` reads the lines of an input, and proofs know which lines it has passed.
+//! `read_line` reads one line, and returns whether it is the last one. Its contract says which
+//! bytes the line has, and which bytes of the input are left.
 #![tactic(auto)]
 
 ghost use Rattle.std.specs.Prelude.{IfOk, OnErr};
 ghost use Rattle.std.specs.Io.KnownBytes.{Consumes};
 ghost use Rattle.trace_lines.specs.Lines.{TakesLine};
 
+mod passed;
+mod reader;
+
+pub use reader::LineReader;
 use std::io::{self, BufRead};
 
 /// Reads a line without its line feed. Returns whether it is the last one.
