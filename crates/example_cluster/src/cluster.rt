@@ -15,9 +15,9 @@ use crate::view::said_by;
 use raft_base::EmptyNode;
 use rand::RngExt;
 use rand_pcg::Pcg32;
-use safety_laws::check::Refused;
 use std::alloc::{AllocError, Global};
 use std::collections::{BTreeMap, BTreeSet};
+use trace_checker::check::Refused;
 
 /// How many events a cluster has to converge once its network is mended.
 const TIME_TO_CONVERGE: u64 = 10_000;

@@ -117,9 +117,10 @@ impl Server {
 
     /// Commits what a quorum has, if the server leads.
     fn commit(&mut self) -> Result<(), HandlerError> {
+        let is_wrong = self.commits_wrongly();
         if let Role::Leader(leader) = &self.role {
             let granted = leader.granted();
-            if self.commits_wrongly(leader) && self.state.can_commit(&granted) {
+            if is_wrong && self.state.can_commit(&granted) {
                 self.state.update_committed(&granted)?;
             } else {
                 leader.commit(&mut self.state)?;

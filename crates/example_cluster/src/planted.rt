@@ -3,7 +3,7 @@
 use crate::deed::Deed;
 use crate::fault::Fault;
 use crate::server::{Role, Server};
-use crate::types::{ChangeMembers, Entry, Leader, LogId, Members, Payload, end};
+use crate::types::{ChangeMembers, Entry, LogId, Members, Payload, end};
 use std::collections::BTreeSet;
 use std::slice;
 use steps_handlers::HandlerError;
@@ -20,11 +20,11 @@ impl Server {
         }
     }
 
-    /// Whether a planted fault lets it commit what a leader's quorum has, without a test.
-    pub fn commits_wrongly(&self, leader: &Leader) -> bool {
-        match self.fault {
-            Some(Fault::CommitEarlierTerm) => true,
-            Some(Fault::CountOldMembers) => leader.has_own_granted(),
+    /// Whether a planted fault lets it commit what its quorum has, without a test.
+    pub fn commits_wrongly(&self) -> bool {
+        match (self.fault, &self.role) {
+            (Some(Fault::CommitEarlierTerm), Role::Leader(_)) => true,
+            (Some(Fault::CountOldMembers), Role::Leader(leader)) => leader.has_own_granted(),
             _ => false,
         }
     }

@@ -5,11 +5,11 @@
 //! index is a number of first entries.
 
 use crate::types::CommittedLeaderId;
-use safety_laws::entry::Entry as LawEntry;
-use safety_laws::event::Event;
-use safety_laws::term::Term as _;
 use std::alloc::{AllocError, Global};
 use std::collections::BTreeMap;
+use trace_checker::entry::Entry as LawEntry;
+use trace_checker::event::Event;
+use trace_checker::term::Term as _;
 
 /// A term of the laws: the committed leader id of a leader.
 pub type Term = CommittedLeaderId;

@@ -3,11 +3,11 @@
 use crate::server::{Role, Server};
 use crate::types::{CommittedLeaderId, LogId, end};
 use raft_base::LogStateReader;
-use safety_laws::checker;
 use std::alloc::{AllocError, Global};
 use std::collections::BTreeMap;
 use steps_handlers::HandlerError;
 use thiserror::Error;
+use trace_checker::checker;
 
 /// What is wrong with a cluster.
 #[derive(Debug, Clone, Copy, PartialEq, Eq, Error)]

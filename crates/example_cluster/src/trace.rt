@@ -1,14 +1,15 @@
 //! What the servers do, recorded in the words of the laws of safety.
 //!
 //! `safety_laws` proves: if each recorded act was allowed by those before it, the cluster is safe.
-//! Its checker says whether they were. A log of the laws has no entry 0, which starts the cluster.
+//! `trace_checker` says whether they were. A log of the laws has no entry 0, which starts the
+//! cluster.
 
 use crate::record::{Act, Entry, Record, Term};
-use safety_laws::check::Refused;
-use safety_laws::checker::{Checker, LearnError, Violation};
-use safety_laws::event::Event as LawEvent;
-use safety_laws::memberships::Memberships;
 use std::alloc::{AllocError, Global};
+use trace_checker::check::Refused;
+use trace_checker::checker::{Checker, LearnError, Violation};
+use trace_checker::event::Event as LawEvent;
+use trace_checker::memberships::Memberships;
 
 /// What a server has said or done that its state does not show.
 #[derive(Clone, Copy)]

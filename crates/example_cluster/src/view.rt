@@ -5,9 +5,9 @@ use crate::record::Entry;
 use crate::server::{Role, Server};
 use crate::trace::{Said, Trace, View};
 use crate::types::{Members, Payload, end};
-use safety_laws::checker::Violation;
 use std::alloc::{AllocError, Global};
 use steps_handlers::Outcome;
+use trace_checker::checker::Violation;
 
 /// The number of the first membership: no command has a number that is as great.
 const FIRST_MEMBERSHIP: u64 = 1_000_000_000_000;

@@ -76,15 +76,6 @@ module _ {T ID D : Type 0} (rank : T → ℕ) (quorum : List (Entry T D) → (ID
   abbrev pub MayAppendAndAck : List (Event T ID D) → T → ID → ℕ → List (Entry T D) → Type 0
   MayAppendAndAck es t c n log = MayAppendAndAckBy rank (appended quorum) h es t c n log
 
-  abbrev pub MayTakeAppendEntries : Type 0
-  MayTakeAppendEntries = MayTakeAppendEntriesBy rank (appended quorum) h
-
-  abbrev pub MayTruncateAtConflict : Type 0
-  MayTruncateAtConflict = MayTruncateAtConflictBy rank (appended quorum) h
-
-  abbrev pub MayInstallSnapshot : Type 0
-  MayInstallSnapshot = MayInstallSnapshotBy rank (appended quorum) h
-
   abbrev pub ConsistencyCheckSuffices : Type 0
   ConsistencyCheckSuffices = ConsistencyCheckSufficesBy rank (appended quorum) h
 

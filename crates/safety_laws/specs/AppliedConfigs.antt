@@ -8,7 +8,7 @@
 --
 -- That some leader has committed the config by then is not enough. A candidate of term 2 may get its
 -- last vote after a leader of term 3 has committed a config. If it counts by that config, term 2 can
--- have two leaders (`known_by_a_later_term` in AppliedScenarios).
+-- have two leaders.
 use Rattle.std.specs.Prelude.{◌≡◌, ◌⊎◌, ◌<◌, ◌≤◌, ℕ, Bool, true, Option, Some, None, List, [], ◌∷◌, ◌++◌, length, take, drop}
 use Rattle.safety_laws.specs.Log.{Entry, IsPrefix}
 use Rattle.safety_laws.specs.Events.{History}

@@ -5,7 +5,6 @@ pub mod Rules
 pub mod Safety
 pub mod Apply
 pub mod Configs
-pub mod Counted
 pub mod AppliedConfigs
 pub mod Ranks
 pub mod Execution
@@ -13,9 +12,3 @@ pub mod AppliedExecution
 pub mod AppendEntries
 pub mod Trace
 pub mod AppliedTrace
-pub mod Inner
-pub mod Scenarios
-pub mod AppliedScenarios
-pub mod Checker
-pub mod Memberships
-pub mod Merge

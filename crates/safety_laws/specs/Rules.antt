@@ -16,7 +16,7 @@ pub record MayRestart {T ID D : Type 0} (es : List (Event T ID D)) (log : List (
 -- and has reached no greater one. The model counts no such late vote (`HasVoted`), so the candidate's
 -- log plays no part here, and no proof uses the two conditions. A voter of an engine compares the
 -- logs for a late vote too, because a candidate cannot tell it from another vote. The Raft paper
--- requires this for every vote, and so does the test of a trace (`broken_rule`). It is not proved
+-- requires this for every vote, and so does the test of a trace (`broken_rule_by`). It is not proved
 -- that a candidate whose quorum needs a late vote is the leader already
 pub record MayVoteLate {T ID D : Type 0} (rank : T → ℕ) (es : List (Event T ID D)) (t : T) : Type 0
   where

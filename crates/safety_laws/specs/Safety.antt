@@ -60,17 +60,11 @@ module _ {T ID D : Type 0} (rank : T → ℕ) (quorum : List (Entry T D) → (ID
   abbrev pub ElectionSafety : Type 0
   ElectionSafety = ElectionSafetyBy rank (appended quorum) h
 
-  abbrev pub WasLog : List (Entry T D) → Type 0
-  WasLog p = WasLogBy rank (appended quorum) h p
-
   abbrev pub LogMatching : Type 0
   LogMatching = LogMatchingBy rank (appended quorum) h
 
   abbrev pub LeaderCompleteness : Type 0
   LeaderCompleteness = LeaderCompletenessBy rank (appended quorum) h
-
-  abbrev pub CommitsAgree : Type 0
-  CommitsAgree = CommitsAgreeBy rank (appended quorum) h
 
   abbrev pub IsSafe : Type 0
   IsSafe = IsSafeBy rank (appended quorum) h

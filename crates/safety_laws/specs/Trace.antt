@@ -9,7 +9,7 @@ use Rattle.safety_laws.specs.Ranks.{IsAmong}
 use Rattle.safety_laws.specs.Facts.{Counting, appended}
 use Rattle.safety_laws.specs.Safety.{IsSafeBy}
 use Rattle.safety_laws.specs.Execution.{IsExecutionBy, Next}
-use Rattle.safety_laws.specs.declared.checker.counting.ConfigsCount.{ConfigsCount}
+use Rattle.safety_laws.specs.declared.counting.ConfigsCount.{ConfigsCount}
 use Rattle.safety_laws.specs.declared.rule.Rule.{Rule}
 use Rattle.safety_laws.specs.declared.rule.Rule.TheVariants.{PassedTerm, CampaignedTwice, NoCampaign, OwnCandidate, CandidateBehind, NotElected, MissingEntries, DropsMatching, ForeignEntries, TermNotReached, NotWritten, NotKept, LostAcked, OtherTerm, ApartConfigs, ApartQuorums, EarlyConfig, EarlierTerm, CountedEarly, NoQuorum, NotInLog, NotCommitted}
 
@@ -349,14 +349,6 @@ module _ {T ID D M : Type 0} (k : Tests T ID D M) where
 
   abbrev pub appended_tests : ConfigTests T ID D M
   appended_tests = record { is_elected = is_elected; commit_rule = commit_rule; config_rule = proposal_rule }
-
-  -- the first rule that an event breaks after the earlier ones
-  abbrev pub broken_rule : TraceEvent T ID D → List (TraceEvent T ID D) → Option Rule
-  broken_rule e es = broken_rule_by k appended_tests e es
-
-  -- an event is allowed after the earlier ones if it breaks no rule
-  abbrev pub is_allowed : TraceEvent T ID D → List (TraceEvent T ID D) → Bool
-  is_allowed e es = is_allowed_by k appended_tests e es
 
   -- quorums of the initial config intersect, and each event is allowed after the earlier ones
   abbrev pub are_allowed : List (TraceEvent T ID D) → Bool

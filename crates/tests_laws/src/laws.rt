@@ -7,26 +7,18 @@ ghost use Rattle.safety_laws.specs.AppliedTrace.{AppliedTracesAreExecutions};
 ghost use Rattle.safety_laws.specs.Apply.{StateMachinesAgree};
 ghost use Rattle.safety_laws.specs.Configs.{JointMembersAreSafe, StepsAreCoherent};
 ghost use Rattle.safety_laws.specs.Execution.{ExecutionsKeepFacts, StateMachinesAgreeAtAllTimes};
-ghost use Rattle.safety_laws.specs.Checker.{tests_of, trace_of};
-ghost use Rattle.safety_laws.specs.Trace.{IsSafeTrace};
 ghost use Rattle.tests_laws.specs.Callers.{AllowedTracesAgree, OneMembershipIsSafe, QuorumSizesElectOne};
 ghost use Rattle.std.specs.Ordering.{nat_cmp};
-ghost use Rattle.std.specs.Prelude.{IsTrue, nat_eq, ℕ};
+ghost use Rattle.std.specs.Prelude.{ℕ};
 
 use raft_base::{LeaderAdv, LeaderKind, LeaderStd, NodeId};
 use raft_members::quorum::laws::quorums_meet;
-use safety_laws::check::check;
-use safety_laws::checker::Configs;
-use safety_laws::event::Event;
 use safety_laws::laws::{
     applied_configs_are_safe, applied_executions_are_safe, applied_traces_are_executions,
     changing_members_are_safe, executions_are_safe, facts_are_stable, fixed_members_are_safe,
     joint_members_are_safe, orders_have_ranks, settled_configs_suffice, state_machines_agree,
     traces_are_executions,
 };
-use safety_laws::memberships::{Memberships, memberships_are_exact};
-use safety_laws::term::Term;
-use std::alloc::Global;
 
 /// A cluster whose membership never changes is safe.
 pub fn one_membership_is_safe<T, ID: Copy + Ord, D>()
@@ -89,22 +81,4 @@ pub fn default_ids_are_safe()
 pub fn standard_ids_are_safe() {
     kind_is_safe::<u64, LeaderStd, u64, u64>();
     applied_kind_is_safe::<u64, LeaderStd, u64, u64>();
-}
-
-/// Whether a trace keeps the rules, checked by memberships of the layer. If it does, it is safe:
-/// over numbers nothing more has to be shown.
-pub fn is_checked(
-    alloc: Global,
-    memberships: Memberships<u64, u64>,
-    events: &[Event<u64, u64, u64>],
-) -> bool
-    ensures { IsTrue result → IsSafeTrace (tests_of ⟦<u64 as Term>⟧ ⟦<u64 as PartialEq>⟧
-        ⟦<u64 as PartialEq>⟧
-        ⟦<Memberships<u64, u64> as Configs<u64, u64>>⟧ memberships) (trace_of events.now) }
-{
-    memberships_are_exact::<u64, u64, u64>(&memberships);
-    match check(alloc, memberships, events) {
-        Ok(()) => true,
-        Err(_) => false,
-    }
 }

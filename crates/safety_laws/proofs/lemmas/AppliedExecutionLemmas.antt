@@ -145,14 +145,6 @@ module _ {T ID D M : Type 0} (rank : T → ℕ) (config_of : D → Option M) (in
     pub execution_is_safe : (h : History T ID D) → IsAmong h (last ∷ earlier) → IsSafeBy rank Q h
     execution_is_safe h among = steps.execution_is_safe rank Rules Step Kept steady last earlier run h among
 
-    -- each history of an execution follows the rules
-    pub execution_follows : (h : History T ID D) → IsAmong h (last ∷ earlier)
-        → FollowsRaftWhenApplied rank config_of initial quorum_of h
-    execution_follows h among =
-        follows_all h (steps.execution_follows rank Rules Step Kept steady last earlier run h among)
-        (steps.execution_proposes rank Rules Step Kept steady last earlier run h among)
-        (steps.execution_kept rank Rules Step Kept steady last earlier run h among)
-
     pub execution_keeps_facts : (h : History T ID D) → IsAmong h (last ∷ earlier)
         → FactsAreStableBy rank Q h last
     execution_keeps_facts h among =

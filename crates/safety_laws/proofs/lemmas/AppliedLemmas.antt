@@ -12,7 +12,7 @@ use Rattle.safety_laws.specs.AppliedConfigs.{AppliedConfigsAreSafe, FollowsRaftW
 use Rattle.safety_laws.proofs.lemmas.PrefixLemmas.{prefix_itself, prefix_trans, prefix_take, prefix_length, prefix_within, take_within, take_prefix}
 use Rattle.safety_laws.proofs.lemmas.ServerLemmas.{IsFrom, OneBelow, CompleteBelow, prefix_from, written_is_from, candidate_from, candidate_start, from_more, voted_once, committed_length, by_voter, of_same}
 use Rattle.safety_laws.proofs.lemmas.ConfigLemmas.{place, place_fits, place_none, upto, upto_fits, upto_grows, same_named, last_named, LastNamed, none_upto, members-none}
-use Rattle.safety_laws.proofs.lemmas.SafetyLemmas.{safe}
+use Rattle.safety_laws.proofs.lemmas.SafetyLemmas.{safe_by_terms}
 use Rattle.safety_laws.proofs.lemmas.ApplyLemmas.{state_machines_agree}
 use Rattle.safety_laws.proofs.lemmas.AppendLemmas.{check_suffices}
 
@@ -389,45 +389,8 @@ module _ {T ID D M : Type 0} (rank : T → ℕ) (config_of : D → Option M) (in
       voted_once rank Q h laws.keeps_rules v u c d (h.events v) (laws.keeps_rules.servers v)
       (x.have_voted v in_x) (y.have_voted v in_y)
 
-  record Below (k : ℕ) : Type 0 where
-    one : OneBelow rank Q h laws.keeps_rules k
-    complete : CompleteBelow rank Q h laws.keeps_rules k
-
-  below_step : (k : ℕ) → Below k → Below (suc k)
-  below_step k b =
-      record {
-        one = λ t c d lt x y. one_of t c d (cases_lt (rank t) k) lt x y;
-        complete = λ t u c d n m lt done less el. complete_of t u c d n m (cases_lt (rank u) k) lt done less el;
-      }
-    where
-      one_of : (t : T) (c d : ID) → ((rank t < k) ⊎ (k ≤ rank t)) → rank t < suc k → IsElectedBy rank Q h t c
-          → IsElectedBy rank Q h t d → c ≡ d
-      one_of t c d (inl early) lt x y = b.one t c d early x y
-      one_of t c d (inr late) lt x y =
-          let e : k ≡ rank t = omega arith in
-          let b' : Below (rank t) = rw e at b in one_at t b'.one b'.complete c d x y
-
-      complete_of : (t u : T) (c d : ID) (n m : ℕ) → ((rank u < k) ⊎ (k ≤ rank u)) → rank u < suc k
-          → IsCommittedBy rank Q h t c n m → rank t < rank u → IsElectedBy rank Q h u d
-          → IsPrefix (take n (h.leader_log t c)) (h.candidate_log u d)
-      complete_of t u c d n m (inl early) lt done less el = b.complete t u c d n m early done less el
-      complete_of t u c d n m (inr late) lt done less el =
-          let e : k ≡ rank u = omega arith in
-          let b' : Below (rank u) = rw e at b in
-          held u d b'.one b'.complete el t c n m done less
-
-  below : (k : ℕ) → Below k
-  below zero =
-      record {
-        one = λ t c d lt x y. absurd (omega arith);
-        complete = λ t u c d n m lt done less el. absurd (omega arith);
-      }
-  below (suc k) = below_step k (below k)
-
   pub is_safe : IsSafeBy rank Q h
-  is_safe =
-      safe rank Q h laws.keeps_rules (λ t c d x y. (below (suc (rank t))).one t c d (omega arith) x y)
-      (λ t u c d n m done lt el. (below (suc (rank u))).complete t u c d n m (omega arith) done lt el)
+  is_safe = safe_by_terms rank Q h laws.keeps_rules one_at held
 
   all_safe : IsSafeWhenApplied rank config_of initial quorum_of h
   all_safe = record {

@@ -7,14 +7,14 @@ use Rattle.safety_laws.specs.Log.{Entry}
 use Rattle.safety_laws.specs.Events.{History}
 use Rattle.safety_laws.specs.Facts.{Counting, HasVoted, IsCommittedBy, IsElectedBy}
 use Rattle.safety_laws.specs.Configs.{HoldNoConfig, effective_config}
-use Rattle.safety_laws.specs.AppliedConfigs.{FollowsRaftWhenApplied, HoldAtMostOneConfig, IsInitialOrKnown, IsKnown, KeepsQuorums, MayCountAcks, MayCountVotes, applied}
+use Rattle.safety_laws.specs.AppliedConfigs.{HoldAtMostOneConfig, IsInitialOrKnown, IsKnown, KeepsQuorums, MayCountAcks, MayCountVotes, applied}
 use Rattle.safety_laws.specs.Execution.{ConfigRules, FactsAreStableBy, IsExecutionBy, NextBy}
 use Rattle.safety_laws.specs.AppliedExecution.{NextWhenApplied, use_applied}
 use Rattle.safety_laws.specs.Trace.{Acked, Appended, Applied, AreExact, Campaigned, Committed, Granted, Restarted, TermsHaveRanks, Tests, TraceEvent, Wrote, are_allowed_by, candidate_log_in, counts_acks, counts_votes, earlier, events_in, has_acked, has_voted, history, hold_no_config, is_earlier, is_known_by, is_prefix, is_quorum_of_log, leader_log_in, same_leader}
 use Rattle.safety_laws.specs.AppliedTrace.{IsSafeAppliedTrace, applied_tests, has_votes_by, hold_at_most_one, intersect_rule, is_elected_by_known, is_shorter, known_commit_rule, may_count_acks, some_upto}
 use Rattle.safety_laws.proofs.lemmas.PrefixLemmas.{prefix_itself, take_prefix}
 use Rattle.safety_laws.proofs.lemmas.RuleLemmas.{intersect_tests, known_commit_tests, may_commit_known, passes}
-use Rattle.safety_laws.proofs.lemmas.AppliedExecutionLemmas.{Counts, execution_follows, steady}
+use Rattle.safety_laws.proofs.lemmas.AppliedExecutionLemmas.{Counts, steady}
 use Rattle.safety_laws.proofs.lemmas.StepLemmas.{step_keeps_facts}
 use Rattle.safety_laws.proofs.lemmas.TestLemmas.{acked_right, at_most_one_right, leader_from, leader_right, no_config_right, or_cases, prefix_right, voted_right}
 use Rattle.safety_laws.proofs.lemmas.TraceLemmas as traces
@@ -489,11 +489,3 @@ module _ {T ID D M : Type 0} (k : Tests T ID D M) (exact : AreExact k) where
 
   pub trace_is_safe : (es : Events) → TermsHaveRanks k es → AreAllowed es → IsSafeAppliedTrace k es
   trace_is_safe es ranks ok = traces.trace_is_safe k exact (applied_tests k) Rules Step Kept right es ranks ok
-
-  -- the history of such a trace follows the rules
-  pub trace_follows : (es : Events) → TermsHaveRanks k es → AreAllowed es
-      → FollowsRaftWhenApplied k.rank k.config_of k.initial k.quorum_of (history k es)
-  trace_follows es ranks ok =
-      execution_follows k.rank k.config_of k.initial k.quorum_of
-      (traces.initial_intersects k exact (applied_tests k) es ok) (history k es) (earlier k es)
-      (trace_is_safe es ranks ok).execution (history k es) (inl refl)

@@ -11,7 +11,7 @@ use Rattle.safety_laws.specs.Configs.{FollowsRaftWithConfigs, MayProposeConfig, 
 use Rattle.safety_laws.proofs.lemmas.PrefixLemmas.{prefix_itself, prefix_trans, prefix_take, prefix_within, prefix_same, take_within}
 use Rattle.safety_laws.proofs.lemmas.ServerLemmas.{IsFrom, OneBelow, CompleteBelow, IsAhead, from_more, prefix_from, written_is_from, candidate_from, candidate_start, last_written, last_of, last_term_grows, voted_once, committed_length, ahead, by_voter, of_same}
 use Rattle.safety_laws.proofs.lemmas.ConfigLemmas.{upto, upto_fits, upto_grows, same_named, last_named, LastNamed, none_upto, members-none}
-use Rattle.safety_laws.proofs.lemmas.SafetyLemmas.{safe}
+use Rattle.safety_laws.proofs.lemmas.SafetyLemmas.{safe_by_terms}
 
 module _ {T ID D M : Type 0} (rank : T → ℕ) (config_of : D → Option M) (initial : M) (quorum_of : M → (ID → Bool) → Bool)
     (h : History T ID D) (laws : FollowsRaftWithConfigs rank config_of initial quorum_of h) where
@@ -289,11 +289,6 @@ module _ {T ID D M : Type 0} (rank : T → ℕ) (config_of : D → Option M) (in
       b_from : IsFrom rank Q h laws.keeps_rules (rank u) b
       b_from = candidate_from rank Q h laws.keeps_rules u d el b (prefix_itself b)
 
-      a_term : last_term rank a ≡ rank t
-      a_term =
-          last_written rank Q h laws.keeps_rules t c done.elected a (prefix_take m (h.leader_log t c))
-          (omega (arith, a_length, done.own_term, done.is_quorum.within))
-
       ahead' : IsAhead rank Q h laws.keeps_rules t n b → IsPrefix p b
       ahead' past = ahead rank Q h laws.keeps_rules t u c d n m one complete done lt el past
 
@@ -380,42 +375,8 @@ module _ {T ID D M : Type 0} (rank : T → ℕ) (config_of : D → Option M) (in
       voted_once rank Q h laws.keeps_rules v u c d (h.events v) (laws.keeps_rules.servers v)
       (x.have_voted v in_x) (y.have_voted v in_y)
 
-  record Below (k : ℕ) : Type 0 where
-    one : OneBelow rank Q h laws.keeps_rules k
-    complete : CompleteBelow rank Q h laws.keeps_rules k
-
-  below_step : (k : ℕ) → Below k → Below (suc k)
-  below_step k b =
-      record {
-        one = λ t c d lt x y. one_of t c d (cases_lt (rank t) k) lt x y;
-        complete = λ t u c d n m lt done less el. complete_of t u c d n m (cases_lt (rank u) k) lt done less el;
-      }
-    where
-      one_of : (t : T) (c d : ID) → ((rank t < k) ⊎ (k ≤ rank t)) → rank t < suc k → IsElectedBy rank Q h t c
-          → IsElectedBy rank Q h t d → c ≡ d
-      one_of t c d (inl early) lt x y = b.one t c d early x y
-      one_of t c d (inr late) lt x y =
-          let e : k ≡ rank t = omega arith in
-          let b' : Below (rank t) = rw e at b in one_at t b'.one b'.complete c d x y
-
-      complete_of : (t u : T) (c d : ID) (n m : ℕ) → ((rank u < k) ⊎ (k ≤ rank u)) → rank u < suc k
-          → IsCommittedBy rank Q h t c n m → rank t < rank u → IsElectedBy rank Q h u d
-          → IsPrefix (take n (h.leader_log t c)) (h.candidate_log u d)
-      complete_of t u c d n m (inl early) lt done less el = b.complete t u c d n m early done less el
-      complete_of t u c d n m (inr late) lt done less el =
-          let e : k ≡ rank u = omega arith in
-          let b' : Below (rank u) = rw e at b in
-          held_upto u d b'.one b'.complete el (suc m) t c n m (omega arith) done less
-
-  below : (k : ℕ) → Below k
-  below zero =
-      record {
-        one = λ t c d lt x y. absurd (omega arith);
-        complete = λ t u c d n m lt done less el. absurd (omega arith);
-      }
-  below (suc k) = below_step k (below k)
-
   pub changing_is_safe : IsSafeBy rank Q h
   changing_is_safe =
-      safe rank Q h laws.keeps_rules (λ t c d x y. (below (suc (rank t))).one t c d (omega arith) x y)
-      (λ t u c d n m done lt el. (below (suc (rank u))).complete t u c d n m (omega arith) done lt el)
+      safe_by_terms rank Q h laws.keeps_rules one_at
+      (λ u d one complete el t c n m done lt.
+      held_upto u d one complete el (suc m) t c n m (omega arith) done lt)

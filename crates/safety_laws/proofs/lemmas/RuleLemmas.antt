@@ -1,6 +1,7 @@
 -- What an event that breaks no rule passes, as conjunctions of tests.
 use Rattle.std.specs.Prelude.{◌≡◌, ℕ, Bool, true, false, not, ◌&&◌, ◌||◌, nat_lt, nat_le, Option, Some, None, is_none, List, ◌++◌, length, take, drop}
 use Rattle.std.proofs.Common.{refl, ap, ◌∙◌}
+use Rattle.std.proofs.Math.Bool.{and_comm}
 use Rattle.safety_laws.specs.declared.rule.Rule.TheVariants.{NoCampaign, OwnCandidate, CandidateBehind, OtherTerm, ApartConfigs, ApartQuorums, EarlyConfig, EarlierTerm, CountedEarly, CountedLate, UnknownConfig, ConfigsFollow, NoQuorum, NotInLog, NotCommitted, CampaignedTwice, NotElected, PassedTerm, MissingEntries, DropsMatching, ForeignEntries, TermNotReached, NotWritten, NotKept, LostAcked}
 use Rattle.safety_laws.specs.Configs.{effective_config}
 use Rattle.safety_laws.specs.Trace.{Tests, TraceEvent, Campaigned, Granted, Appended, Acked, Restarted, Wrote, Committed, Applied, durable, term_in, voted_in, log_in, is_up_to_date, events_in, has_campaigned, ConfigTests, is_allowed_by, commit_rule, has_kept, has_acked, candidate_log_in, leader_log_in, is_config_committed, is_known_committed, is_quorum_of_log, is_prefix, common_prefix, unless, proposal_rule}
@@ -13,20 +14,10 @@ rule_first : (b : Bool) (r : Rule) (o : Option Rule) → is_none (unless b r o) 
 rule_first true r o = refl
 rule_first false r o = refl
 
-and_yes : (b : Bool) → (b && true) ≡ b
-and_yes true = refl
-and_yes false = refl
-
 and_swap : (a b c : Bool) → (a && (b && c)) ≡ (b && (a && c))
 and_swap true b c = refl
 and_swap false true c = refl
 and_swap false false c = refl
-
-and_turn : (a b : Bool) → (a && b) ≡ (b && a)
-and_turn true true = refl
-and_turn true false = refl
-and_turn false true = refl
-and_turn false false = refl
 
 rules_2 : (a b : Bool) (p q : Rule) → is_none (unless a p (unless b q None)) ≡ (a && b)
 rules_2 true true p q = refl
@@ -95,7 +86,7 @@ module _ {T ID D M : Type 0} (k : Tests T ID D M) (conf : ConfigTests T ID D M) 
   allowed_by_rules (Campaigned c t) es =
       let new : Bool = not (has_campaigned k t c es) in
       let term : Bool = nat_lt (term_in k es c) (k.rank t) in
-      rules_2 new term CampaignedTwice PassedTerm ∙ and_turn new term
+      rules_2 new term CampaignedTwice PassedTerm ∙ and_comm new term
   allowed_by_rules (Granted s t c) es =
       let campaigned : Bool = has_campaigned k t c es in
       let term : Bool = nat_le (term_in k es s) (k.rank t) && nat_lt (voted_in k es s) (k.rank t) in

@@ -1,5 +1,5 @@
 -- What follows from election safety and leader completeness.
-use Rattle.std.specs.Prelude.{◌≡◌, ◌⊎◌, ◌<◌, ◌≤◌, ℕ, suc, List, length, take}
+use Rattle.std.specs.Prelude.{◌≡◌, ◌⊎◌, ◌<◌, ◌≤◌, ℕ, zero, suc, List, length, take}
 use Rattle.std.proofs.Common.{sym, ◌∙◌, inl, inr, arith}
 use Rattle.std.proofs.lemmas.Bool.{cases_lt}
 use Rattle.safety_laws.specs.Log.{Entry, IsPrefix, last_term}
@@ -8,7 +8,7 @@ use Rattle.safety_laws.specs.Facts.{Counting, IsCommittedBy, IsElectedBy}
 use Rattle.safety_laws.specs.Rules.{FollowsRaftBy}
 use Rattle.safety_laws.specs.Safety.{CommitsAgreeBy, ElectionSafetyBy, IsSafeBy, LeaderCompletenessBy, LogMatchingBy, WasLogBy}
 use Rattle.safety_laws.proofs.lemmas.PrefixLemmas.{prefix_trans, prefix_take, prefix_length, prefix_within, prefix_same}
-use Rattle.safety_laws.proofs.lemmas.ServerLemmas.{IsFrom, log_from, written_is_from, last_of, candidate_start, committed_length}
+use Rattle.safety_laws.proofs.lemmas.ServerLemmas.{IsFrom, OneBelow, CompleteBelow, log_from, written_is_from, last_of, candidate_start, committed_length, of_same}
 
 module _ {T ID D : Type 0} (rank : T → ℕ) (counting : Counting T ID D) (h : History T ID D)
     (lawful : FollowsRaftBy rank counting h) (one : ElectionSafetyBy rank counting h)
@@ -77,12 +77,8 @@ module _ {T ID D : Type 0} (rank : T → ℕ) (counting : Counting T ID D) (h : 
           let e : t ≡ u = lawful.ranks t u c d x.elected y.elected (omega arith) in
           let el : IsElectedBy rank counting h u c = rw e at x.elected in
           let g : c ≡ d = one u c d el y.elected in
-          by_lengths (of_leader P t u c d e g (prefix_take n (h.leader_log t c)))
+          by_lengths (of_same rank counting h lawful P t u c d e g (prefix_take n (h.leader_log t c)))
           (cases_lt (length P) (length Q))
-        where
-          of_leader : (p : List (Entry T D)) (t w : T) (c e : ID) → t ≡ w → c ≡ e
-              → IsPrefix p (h.leader_log t c) → IsPrefix p (h.leader_log w e)
-          of_leader p t w c e f g st = rw (f, g) at st
 
   by_length : {a b q : List (Entry T D)} → IsPrefix a q → IsPrefix b q → IsPrefix a b ⊎ IsPrefix b a
   by_length {a} {b} {q} x y = go (cases_lt (length a) (length b))
@@ -110,3 +106,50 @@ module _ {T ID D : Type 0} (rank : T → ℕ) (counting : Counting T ID D) (h : 
     leader_completeness = complete;
     commits_agree = commits_agree;
   }
+
+-- if each term has one leader, whose log is complete, as long as lower terms have, a history is safe
+module _ {T ID D : Type 0} (rank : T → ℕ) (counting : Counting T ID D) (h : History T ID D)
+    (lawful : FollowsRaftBy rank counting h)
+    (one_at : (u : T) → OneBelow rank counting h lawful (rank u) → CompleteBelow rank counting h lawful (rank u)
+    → (c d : ID) → IsElectedBy rank counting h u c → IsElectedBy rank counting h u d → c ≡ d)
+    (held : (u : T) (d : ID) → OneBelow rank counting h lawful (rank u) → CompleteBelow rank counting h lawful (rank u)
+    → IsElectedBy rank counting h u d → (t : T) (c : ID) (n m : ℕ) → IsCommittedBy rank counting h t c n m
+    → rank t < rank u → IsPrefix (take n (h.leader_log t c)) (h.candidate_log u d)) where
+  record Below (k : ℕ) : Type 0 where
+    one : OneBelow rank counting h lawful k
+    complete : CompleteBelow rank counting h lawful k
+
+  below_step : (k : ℕ) → Below k → Below (suc k)
+  below_step k b =
+      record {
+        one = λ t c d lt x y. one_of t c d (cases_lt (rank t) k) lt x y;
+        complete = λ t u c d n m lt done less el. complete_of t u c d n m (cases_lt (rank u) k) lt done less el;
+      }
+    where
+      one_of : (t : T) (c d : ID) → ((rank t < k) ⊎ (k ≤ rank t)) → rank t < suc k → IsElectedBy rank counting h t c
+          → IsElectedBy rank counting h t d → c ≡ d
+      one_of t c d (inl early) lt x y = b.one t c d early x y
+      one_of t c d (inr late) lt x y =
+          let e : k ≡ rank t = omega arith in
+          let b' : Below (rank t) = rw e at b in one_at t b'.one b'.complete c d x y
+
+      complete_of : (t u : T) (c d : ID) (n m : ℕ) → ((rank u < k) ⊎ (k ≤ rank u)) → rank u < suc k
+          → IsCommittedBy rank counting h t c n m → rank t < rank u → IsElectedBy rank counting h u d
+          → IsPrefix (take n (h.leader_log t c)) (h.candidate_log u d)
+      complete_of t u c d n m (inl early) lt done less el = b.complete t u c d n m early done less el
+      complete_of t u c d n m (inr late) lt done less el =
+          let e : k ≡ rank u = omega arith in
+          let b' : Below (rank u) = rw e at b in held u d b'.one b'.complete el t c n m done less
+
+  below : (k : ℕ) → Below k
+  below zero =
+      record {
+        one = λ t c d lt x y. absurd (omega arith);
+        complete = λ t u c d n m lt done less el. absurd (omega arith);
+      }
+  below (suc k) = below_step k (below k)
+
+  pub safe_by_terms : IsSafeBy rank counting h
+  safe_by_terms =
+      safe rank counting h lawful (λ t c d x y. (below (suc (rank t))).one t c d (omega arith) x y)
+      (λ t u c d n m done lt el. (below (suc (rank u))).complete t u c d n m (omega arith) done lt el)

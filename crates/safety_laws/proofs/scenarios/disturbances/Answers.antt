@@ -1,5 +1,0 @@
-use Rattle.safety_laws.proofs.lemmas.ScenarioLemmas as lemmas
-use Rattle.safety_laws.proofs.scenarios.disturbances.Goals as goal
-
-pub returns : goal.returns
-returns c = lemmas.disturbances

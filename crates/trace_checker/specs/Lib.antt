@@ -1,0 +1,5 @@
+pub mod Counted
+pub mod Inner
+pub mod Checker
+pub mod Memberships
+pub mod Merge
