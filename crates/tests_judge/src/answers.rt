@@ -20,7 +20,7 @@ pub const LED: &str = r#"{"event":"started","voters":[[1,2,3]],"first":2}
 "#;
 
 /// Runs that begin with the lines of `LED`.
-pub const ROWS: [Row; 18] = [
+pub const ROWS: [Row; 19] = [
     (
         &[LED],
         0,
@@ -87,17 +87,24 @@ pub const ROWS: [Row; 18] = [
         1,
         "line 9: server 1 applies up to index 2: the entries are not known to be committed\n",
     ),
-    // Server 2 has the entry and has applied it, so it has acknowledged it, and the leader has
-    // committed it.
+    // Server 2 has the entry and has applied it, so it has acknowledged it before it crashed, and
+    // the leader has committed it. If the server has not crashed, its lines say what it has
+    // acknowledged.
     (
         &[
             LED,
-            r#"{"event":"applied","server":2,"index":2}
+            r#"{"event":"restarted","server":2,"index":2}
+{"event":"applied","server":2,"index":2}
 {"event":"applied","server":1,"index":2}"#,
         ],
         0,
-        "safe: 9 events, 3 servers, 1 term with a leader, 1 committed, 0 membership changes, 1 commit \
+        "safe: 10 events, 3 servers, 1 term with a leader, 1 committed, 0 membership changes, 1 commit \
             inferred, 1 acknowledgement inferred\n",
+    ),
+    (
+        &[LED, r#"{"event":"applied","server":2,"index":2}"#],
+        1,
+        "line 9: server 2 applies up to index 2: the entries are not known to be committed\n",
     ),
     (
         &[
@@ -167,7 +174,7 @@ const NAMES: [&str; 3] = ["a", "b", "c"];
 
 /// Lists of lines, which `--` separates, and the status and the answer. Server 1 leads in term 1 by
 /// the vote of server 2.
-const LISTS: [(&str, u8, &str); 10] = [
+const LISTS: [(&str, u8, &str); 11] = [
     // Each server has its own list.
     (
         r#"{"event":"started","voters":[[1,2,3]],"first":2}
@@ -272,6 +279,26 @@ const LISTS: [(&str, u8, &str); 10] = [
         2,
         "a:1: it has to be `started`, with lists of texts or numbers `voters`, a number `first` or none, and `configs`, if it is there, as `appended` or `applied`\n",
     ),
+    // Server 3 has not acknowledged what it applies, and its lines do not wait for another one.
+    (
+        r#"{"event":"started","voters":[[1,2,3]]}
+{"event":"granted","server":1,"term":1,"candidate":2}
+--
+{"event":"campaigned","server":2,"term":1}
+{"event":"wrote","leader":2,"term":1,"content":7}
+{"event":"wrote","leader":2,"term":1,"content":8}
+{"event":"appended","server":2,"term":1,"leader":2,"prev":0,"entries":[[1,7],[1,8]]}
+{"event":"acked","server":2,"term":1,"leader":2,"index":2}
+{"event":"committed","leader":2,"term":1,"index":2}
+--
+{"event":"appended","server":3,"term":1,"leader":2,"prev":0,"entries":[[1,7],[1,8]]}
+{"event":"acked","server":3,"term":1,"leader":2,"index":1}
+{"event":"applied","server":3,"index":2}
+"#,
+        1,
+        "b:6: leader 2 commits index 2 in term 1: no quorum has acknowledged the entries\n\
+            c:3: server 3 applies up to index 2: the entries are not known to be committed\n",
+    ),
     // Lists may be empty.
     (
         r#"{"event":"started","voters":[[1]]}
@@ -301,6 +328,54 @@ fn are_answered(alloc: Global, row: &str, status: u8, answer: &str) -> Result<bo
 fn answers_to_lists(rt: HostRuntime) -> Result<(), Fail> {
     for (row, status, answer) in &LISTS {
         assert!(rt; are_answered(rt.alloc(), row, *status, answer)?, "{row}");
+    }
+    Ok(())
+}
+
+/// The lines of the processes of a run in which servers 2 and 4 crash after an entry is on their
+/// disks and before the line of it, and restart.
+const RESTARTED: [&str; 3] = [
+    r#"{"event":"restarted","server":2,"index":1,"last_term":1}
+{"event":"campaigned","server":2,"term":2}
+"#,
+    r#"{"event":"campaigned","server":3,"term":1}
+{"event":"wrote","leader":3,"term":1,"content":7}
+{"event":"granted","server":3,"term":2,"candidate":2}
+"#,
+    r#"{"event":"granted","server":4,"term":1,"candidate":3}
+{"event":"restarted","server":4,"index":1,"last_term":1}
+{"event":"acked","server":4,"term":1,"leader":3,"index":1}
+"#,
+];
+
+/// The orders of these lists.
+const ORDERS: [[usize; 3]; 6] = [
+    [0, 1, 2],
+    [0, 2, 1],
+    [1, 0, 2],
+    [1, 2, 0],
+    [2, 0, 1],
+    [2, 1, 0],
+];
+
+/// Returns the status of the run in this order of its lists.
+fn restarted_in(alloc: Global, order: &[usize]) -> Result<u8, AllocError> {
+    let mut said = String::new(alloc);
+    let mut lists = Vec::new(alloc);
+    let start = r#"{"event":"started","voters":[[2,3,4]]}"#;
+    lists.push(Lines::new(alloc, start.as_bytes(), None))?;
+    for place in order {
+        let lines = RESTARTED.get(*place).copied().unwrap_or("");
+        lists.push(Lines::new(alloc, lines.as_bytes(), None))?;
+    }
+    Ok(run(alloc, &mut lists, Progress::silent(), false, &mut said))
+}
+
+#[test]
+fn restarts_are_safe_in_each_order(rt: HostRuntime) -> Result<(), Fail> {
+    for order in &ORDERS {
+        let status = restarted_in(rt.alloc(), order)?;
+        assert!(rt; status == 0, "{}{}{}", order[0], order[1], order[2]);
     }
     Ok(())
 }

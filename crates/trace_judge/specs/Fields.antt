@@ -4,8 +4,8 @@ use Rattle.std.specs.Global.{Vec}
 use Rattle.serde_json.specs.Data.{Data, Items, no_items, item}
 use Rattle.serde_json.specs.Find.{as_array, as_number, as_str, as_u64, at, get}
 use Rattle.safety_laws.specs.Log.{Entry}
-use Rattle.safety_laws.specs.declared.checker.counting.ConfigsCount.{ConfigsCount}
-use Rattle.safety_laws.specs.declared.checker.counting.ConfigsCount.TheVariants.{WhenAppended, WhenApplied}
+use Rattle.safety_laws.specs.declared.counting.ConfigsCount.{ConfigsCount}
+use Rattle.safety_laws.specs.declared.counting.ConfigsCount.TheVariants.{WhenAppended, WhenApplied}
 use Rattle.trace_judge.specs.Names.{HasNumber, Numbering}
 
 -- a field that is a number

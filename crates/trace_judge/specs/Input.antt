@@ -1,10 +1,21 @@
--- The lines that are left of an input.
-use Rattle.std.specs.Prelude.{ℕ, if◌then◌else◌, List, [], ◌∷◌, Option, Some, option_map}
-use Rattle.trace_lines.specs.Lines.{lines}
+-- Lists of lines, each of one input.
+use Rattle.std.specs.Prelude.{◌≡◌, ℕ, List, Option, Some, map}
+use Rattle.trace_lines.specs.Reader.{IsAtEnd, lines_of, lines_read}
 use Rattle.trace_judge.specs.declared.input.Lines.{Lines}
 
--- the lines that are left of an input whose bytes are known: the pending one, and those after it
-abbrev pub lines_left : {B : Type 0} → (B → Option (List ℕ)) → Lines B → Option (List (List ℕ))
-lines_left remaining input =
-    let later = if input.is_last then Some [] else option_map lines (remaining input.input) in
-    if input.is_pending then option_map (λ ls. input.line.items ∷ ls) later else later
+-- the lines that were read of a list, and are not pending
+abbrev pub read_of : {B : Type 0} → Lines B → List (List ℕ)
+read_of list = lines_read list.reader
+
+-- a list was read to its end
+abbrev pub IsReadToEnd : {B : Type 0} → Lines B → Type 0
+IsReadToEnd list = IsAtEnd list.reader
+
+-- all lines of a list, if the bytes of its input are known
+abbrev pub known_of : {B : Type 0} → (B → Option (List ℕ)) → Lines B → Option (List (List ℕ))
+known_of remaining list = lines_of remaining list.reader
+
+-- lists still have the lines that they had, if these are known
+abbrev pub KeepKnown : {B : Type 0} → (B → Option (List ℕ)) → List (Lines B) → List (Lines B) → Type 0
+KeepKnown remaining old new =
+    (all : List (List (List ℕ))) → map (known_of remaining) old ≡ map Some all → map (known_of remaining) new ≡ map Some all

@@ -5,10 +5,10 @@ use Rattle.std.specs.List.{list_all, list_any}
 use Rattle.raft_members.specs.quorum.Coherence.{share_child}
 use Rattle.raft_members.specs.quorum.Majority.{is_majority}
 use Rattle.safety_laws.specs.Trace.{Tests}
-use Rattle.safety_laws.specs.Memberships.{configs_of, some_meet}
-use Rattle.safety_laws.specs.Inner.CheckerState.{config_in}
-use Rattle.safety_laws.specs.declared.checker.counting.ConfigsCount.{ConfigsCount}
-use Rattle.safety_laws.specs.declared.memberships.Memberships.{Memberships}
+use Rattle.trace_checker.specs.Memberships.{configs_of, some_meet}
+use Rattle.trace_checker.specs.Inner.CheckerState.{config_in}
+use Rattle.safety_laws.specs.declared.counting.ConfigsCount.{ConfigsCount}
+use Rattle.trace_checker.specs.declared.memberships.Memberships.{Memberships}
 
 -- numbers are compared as numbers. A quorum is a majority of each config of a membership, and quorums of
 -- two memberships are known to intersect if they share a config, or if majorities of a config of each do

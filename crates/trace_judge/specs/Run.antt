@@ -7,9 +7,9 @@ use Rattle.serde_json.specs.Find.{get}
 use Rattle.serde_json.specs.Read.{read}
 use Rattle.safety_laws.specs.Ranks.{IsAmong}
 use Rattle.safety_laws.specs.Trace.{Tests, TraceEvent, Appended, Acked, Wrote, Committed}
-use Rattle.safety_laws.specs.Counted.{IsSafeWhen, are_all_allowed}
-use Rattle.safety_laws.specs.declared.checker.counting.ConfigsCount.{ConfigsCount}
-use Rattle.safety_laws.specs.declared.memberships.Memberships.{Memberships}
+use Rattle.trace_checker.specs.Counted.{IsSafeWhen, are_all_allowed}
+use Rattle.safety_laws.specs.declared.counting.ConfigsCount.{ConfigsCount}
+use Rattle.trace_checker.specs.declared.memberships.Memberships.{Memberships}
 use Rattle.trace_judge.specs.Fields.{HasConfigs, IsCounting, IsFirst, IsNamed}
 use Rattle.trace_judge.specs.Line.{IsVote, Says}
 use Rattle.trace_judge.specs.Names.{AreApart, Numbering}

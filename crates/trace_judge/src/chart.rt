@@ -5,11 +5,11 @@ mod column;
 use crate::chart::column::Column;
 use crate::event::Act;
 use crate::field::{event_name, is_named, value_of};
-use safety_laws::entry::Entry;
-use safety_laws::event::Event;
 use serde_json::Value;
 use std::alloc::{AllocError, Global};
 use std::collections::BTreeMap;
+use trace_checker::entry::Entry;
+use trace_checker::event::Event;
 
 /// How many servers have a column.
 const SERVERS: usize = 7;

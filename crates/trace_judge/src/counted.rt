@@ -1,13 +1,13 @@
 //! Commits of a leader that counts by the config before the last one.
 ghost use Rattle.std.specs.Prelude.{IfSome};
-ghost use Rattle.safety_laws.specs.Checker.{event_of as trace_event};
+ghost use Rattle.trace_checker.specs.Checker.{event_of as trace_event};
 ghost use Rattle.serde_json.specs.View.{view};
 ghost use Rattle.trace_judge.specs.Inner.Taken.{SaysToo};
 
 use crate::event::{Act, Checking};
-use safety_laws::checker::ConfigsCount;
-use safety_laws::event::Event;
+use safety_laws::counting::ConfigsCount;
 use serde_json::Value;
+use trace_checker::event::Event;
 
 /// Returns by how many of its first entries a leader may count that commits so many, if it does not
 /// count by the last config among them: those up to the config before.

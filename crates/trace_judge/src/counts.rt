@@ -1,13 +1,13 @@
 //! What is counted of a run.
 ghost use Rattle.std.specs.Prelude.{◌≡◌, ◌⊎◌, [], ℕ, IfOk, IsTrue, OnOk, Some};
-ghost use Rattle.safety_laws.specs.Checker.{event_of as trace_event};
+ghost use Rattle.trace_checker.specs.Checker.{event_of as trace_event};
 ghost use Rattle.safety_laws.specs.Trace.{Granted};
 ghost use Rattle.trace_judge.specs.Inner.Votes.{IsLastVote, vote_of};
 
 use crate::event::Act;
-use safety_laws::event::Event;
 use std::alloc::{AllocError, Global};
 use std::collections::{BTreeMap, BTreeSet};
+use trace_checker::event::Event;
 
 /// What is counted of the events so far.
 #[derive(Drop)]
@@ -24,10 +24,8 @@ pub struct Counts {
     pub acks: u64,
     /// The appends that were filled in.
     pub appends: u64,
-    /// The terms in which a leader has written an entry.
-    pub terms: BTreeSet<u64>,
-    /// These terms and the first leader that has written in each, the newest last.
-    pub leaders: Vec<(u64, u64)>,
+    /// The terms in which a leader has written an entry, and the first leader that has.
+    pub leaders: BTreeMap<u64, u64>,
     /// The greatest number of entries that a leader has committed.
     pub committed: usize,
     /// The greatest term of which a leader has committed entries, and this leader.
@@ -48,8 +46,7 @@ impl Counts {
             commits: 0,
             acks: 0,
             appends: 0,
-            terms: BTreeSet::new(alloc),
-            leaders: Vec::new(alloc),
+            leaders: BTreeMap::new(alloc),
             committed: 0,
             committed_by: None,
             votes: BTreeMap::new(alloc),
@@ -115,8 +112,8 @@ impl Counts {
                 self.votes.insert(*server, (*term, *candidate))?;
             }
             Event::Wrote { leader, term, .. } => {
-                if self.terms.insert(*term)? {
-                    self.leaders.push((*term, *leader))?;
+                if !self.leaders.contains_key(term) {
+                    self.leaders.insert(*term, *leader)?;
                 }
             }
             Event::Committed {
@@ -152,10 +149,16 @@ impl Counts {
         }
     }
 
-    /// Returns a leader that has written an entry, and its term. The newest one is number 0.
-    pub fn newest_leader(&self, number: usize) -> Option<(u64, u64)> {
-        let place = self.leaders.len().checked_sub(number)?.checked_sub(1)?;
-        self.leaders.get(place).copied()
+    /// Returns the first term from this one on in which a leader has written an entry, and this
+    /// leader. It comes after another one, if that is given.
+    pub fn next_leader(&self, from: u64, after: Option<(u64, u64)>) -> Option<(u64, u64)> {
+        for (term, leader) in self.leaders.range(from..) {
+            let next = (*term, *leader);
+            if Some(next) > after {
+                return Some(next);
+            }
+        }
+        None
     }
 
     /// Notes that a leader commits so many first entries.

@@ -1,6 +1,6 @@
 //! The events of lines.
 ghost use Rattle.std.specs.Prelude.{◌≡◌, ℕ, IfOk, IfSome, IsSome, None, codes};
-ghost use Rattle.safety_laws.specs.Checker.{event_of as trace_event};
+ghost use Rattle.trace_checker.specs.Checker.{event_of as trace_event};
 ghost use Rattle.serde_json.specs.Find.{get};
 ghost use Rattle.serde_json.specs.View.{view};
 ghost use Rattle.trace_judge.specs.Inner.Reading.{IsTaken, TakesUpTo};
@@ -9,12 +9,13 @@ ghost use Rattle.trace_judge.specs.Line.{Says};
 
 use crate::field::{entries, event_name, id, is_named, len, number};
 use crate::names::Names;
-use safety_laws::checker::{Checker, ConfigsCount};
-use safety_laws::entry::Entry;
-use safety_laws::event::Event;
-use safety_laws::memberships::Memberships;
+use safety_laws::counting::ConfigsCount;
 use serde_json::Value;
 use std::alloc::{AllocError, Global};
+use trace_checker::checker::Checker;
+use trace_checker::entry::Entry;
+use trace_checker::event::Event;
+use trace_checker::memberships::Memberships;
 
 /// An event of a trace.
 pub type Act = Event<u64, u64, u64>;

@@ -1,9 +1,9 @@
 //! The lines that later lines may contradict.
 
 use crate::event::Act;
-use safety_laws::event::Event;
 use std::alloc::{AllocError, Global};
 use std::collections::BTreeMap;
+use trace_checker::event::Event;
 
 /// Where a line is: the number of its list, and its number in this list.
 #[derive(Clone, Copy)]

@@ -1,11 +1,11 @@
 //! Why a line is not taken.
 ghost use Rattle.std.specs.Prelude.{◌≡◌};
-ghost use Rattle.safety_laws.specs.declared.checker.violation.Violation.TheVariants.{OutOfMemory};
+ghost use Rattle.trace_checker.specs.declared.checker.violation.Violation.TheVariants.{OutOfMemory};
 ghost use Rattle.trace_judge.specs.declared.fault.Fault.TheVariants.{Refused};
 
-use safety_laws::checker::Violation;
 use safety_laws::rule::Rule;
 use std::alloc::AllocError;
+use trace_checker::checker::Violation;
 
 /// Why a line is not taken.
 #[derive(Clone, Copy)]
@@ -39,14 +39,14 @@ impl Fault {
         )
     }
 
-    /// Returns the exit status for a run that is judged no further because of it.
+    /// Returns the exit status for a run that is judged no further because of it: the line is no
+    /// event, or there is no memory for it.
     pub fn status(&self) -> u8
-        ensures { 0 < result }
+        ensures { 1 < result }
     {
         match self {
-            Fault::Skips(_) | Fault::Refused(Violation::Rule(_)) => 1,
-            Fault::Malformed => 2,
             Fault::Refused(Violation::OutOfMemory) => 3,
+            _ => 2,
         }
     }
 }

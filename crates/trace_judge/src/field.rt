@@ -6,11 +6,11 @@ ghost use Rattle.trace_judge.specs.Fields.{HasConfigs, HasEntries, IsConfig, IsC
 ghost use Rattle.trace_judge.specs.Inner.Table.{numbering};
 
 use crate::names::Names;
-use safety_laws::checker::ConfigsCount;
-use safety_laws::entry::Entry;
+use safety_laws::counting::ConfigsCount;
 use serde_json::Value;
 use std::alloc::{AllocError, Global};
 use std::str;
+use trace_checker::entry::Entry;
 
 /// Returns the value of a line, if the line is JSON.
 pub fn value_of(alloc: Global, line: &[u8]) -> Result<Option<Value>, AllocError>

@@ -1,6 +1,6 @@
 //! Events that no line says, but that the checker needs.
 ghost use Rattle.std.specs.Prelude.{OnOk};
-ghost use Rattle.safety_laws.specs.Checker.{event_of as trace_event};
+ghost use Rattle.trace_checker.specs.Checker.{event_of as trace_event};
 ghost use Rattle.trace_judge.specs.Inner.Taken.{Fills};
 ghost use Rattle.trace_judge.specs.Numbers.{number_tests};
 ghost use Rattle.trace_judge.specs.Run.{IsFilledIn};
@@ -10,13 +10,13 @@ use crate::event::{Act, counted_at, taken_from};
 use crate::field::{event_name, id, len, number};
 use crate::followed::{Followed, KEPT};
 use crate::judge::Judge;
-use safety_laws::checker::Violation;
-use safety_laws::event::Event;
 use serde_json::Value;
 use std::alloc::{AllocError, Global};
+use trace_checker::checker::Violation;
+use trace_checker::event::Event;
 
-/// How many of the newest candidates, and then of the newest leaders that have written entries, are
-/// tried as the one whose entries a server has read from its disk.
+/// How many leaders are tried as the one whose entries a server has read from its disk, and how
+/// many of the newest candidates are among those that come into question.
 const TRIED: usize = 64;
 
 impl Judge {
@@ -55,7 +55,10 @@ impl Judge {
         if self.commit(server, len)? {
             return Ok(());
         }
-        // The server has read the entries from its disk, and crashed before it acknowledged them.
+        // If the server has not crashed, its own lines say what it has acknowledged.
+        if !self.followers.is_silent(server) {
+            return Ok(());
+        }
         if self.acknowledge(server, len)? {
             self.commit(server, len)?;
         }
@@ -158,7 +161,8 @@ impl Judge {
     }
 
     /// Fills in that a server has taken the entries that it has read from its disk, if its log does
-    /// not end so. They are of the newest leader that has them.
+    /// not end so. They are of the leader of `last_term`, or of the first later one that allows it.
+    /// So the server is in no later term than it has to be.
     fn fill_in_append(&mut self, alloc: Global, value: &Value) -> Result<(), AllocError>
         ensures { OnOk result (Fills number_tests self.old self.new) }
     {
@@ -174,23 +178,32 @@ impl Judge {
         if len == 0 || self.has_entry(server, len, last_term) {
             return Ok(());
         }
-        for number in 0..2 * TRIED {
-            let Some((term, leader)) = self.tried_leader(number) else {
+        let mut last = None;
+        for _ in 0..TRIED {
+            let Some((term, leader)) = self.next_leader(last_term, last) else {
                 return Ok(());
             };
             if self.append_from(alloc, server, term, leader, len, last_term)? {
                 return Ok(());
             }
+            last = Some((term, leader));
         }
         Ok(())
     }
 
-    /// Returns the term and the id of a leader whose entries a server may have read from its disk.
-    fn tried_leader(&self, number: usize) -> Option<(u64, u64)> {
-        match number.checked_sub(TRIED) {
-            Some(written) => self.counts.newest_leader(written),
-            None => self.checker.newest_leader(number),
+    /// Returns the first leader or candidate from a term on, and its term. It comes after another
+    /// one, if that is given.
+    fn next_leader(&self, from: u64, last: Option<(u64, u64)>) -> Option<(u64, u64)> {
+        let mut next = self.counts.next_leader(from, last);
+        for number in 0..TRIED {
+            let Some(leader) = self.checker.newest_leader(number) else {
+                return next;
+            };
+            if leader.0 >= from && Some(leader) > last && (next.is_none() || Some(leader) < next) {
+                next = Some(leader);
+            }
         }
+        next
     }
 
     /// Whether so many first entries of a server end with an entry of a term.

@@ -1,9 +1,9 @@
 //! The leaders that servers have followed.
 
 use crate::event::Act;
-use safety_laws::event::Event;
 use std::alloc::{AllocError, Global};
-use std::collections::BTreeMap;
+use std::collections::{BTreeMap, BTreeSet};
+use trace_checker::event::Event;
 
 /// How many leaders are kept of a server. A server applies what one of its last leaders has
 /// committed.
@@ -25,6 +25,8 @@ pub struct Followed {
 pub struct Followers {
     /// The leaders of each server, the last one at the end.
     servers: BTreeMap<u64, Vec<Followed>>,
+    /// The servers that have restarted, and have acknowledged nothing since.
+    silent: BTreeSet<u64>,
     alloc: Global,
 }
 
@@ -33,6 +35,7 @@ impl Followers {
     pub fn new(alloc: Global) -> Followers {
         Followers {
             servers: BTreeMap::new(alloc),
+            silent: BTreeSet::new(alloc),
             alloc,
         }
     }
@@ -79,6 +82,26 @@ impl Followers {
             } => self.note(*server, *term, *leader, *len),
             _ => Ok(()),
         }
+    }
+
+    /// Notes whether a server has restarted, and has acknowledged nothing since, by an event that a
+    /// line says.
+    pub fn note_line(&mut self, event: &Act) -> Result<(), AllocError> {
+        match event {
+            Event::Restarted { server, .. } => {
+                self.silent.insert(*server)?;
+            }
+            Event::Acked { server, .. } => {
+                self.silent.remove(server);
+            }
+            _ => {}
+        }
+        Ok(())
+    }
+
+    /// Whether a server has restarted, and no line says that it has acknowledged anything since.
+    pub fn is_silent(&self, server: u64) -> bool {
+        self.silent.contains(&server)
     }
 
     /// Returns a leader that a server has followed. The last one is number 0.

@@ -1,6 +1,6 @@
 //! Judges the lines of a recorded run.
 ghost use Rattle.std.specs.Prelude.{IfErr, IfOk, IfSome, None, OnOk};
-ghost use Rattle.safety_laws.specs.Checker.{configs_of, event_of as trace_event};
+ghost use Rattle.trace_checker.specs.Checker.{configs_of, event_of as trace_event};
 ghost use Rattle.safety_laws.specs.Ranks.{IsAmong};
 ghost use Rattle.serde_json.specs.View.{view};
 ghost use Rattle.trace_judge.specs.Inner.Table.{numbering};
@@ -19,12 +19,12 @@ use crate::field::{configs, number, value_of};
 use crate::followed::Followers;
 use crate::names::Names;
 use crate::start::start_of;
-use safety_laws::checker::{Checker, LearnError, Violation};
-use safety_laws::event::Event;
-use safety_laws::memberships::{Memberships, memberships_are_exact};
 use safety_laws::rule::Rule;
 use serde_json::Value;
 use std::alloc::Global;
+use trace_checker::checker::{Checker, LearnError, Violation};
+use trace_checker::event::Event;
+use trace_checker::memberships::{Memberships, memberships_are_exact};
 
 /// Judges one line after the other.
 #[derive(Drop)]
@@ -280,6 +280,7 @@ impl Judge {
         self.checker.record(event)?;
         self.counts.note(event)?;
         self.followers.note_event(event)?;
+        self.followers.note_line(event)?;
         let len = self.written_by(event);
         self.facts.note(place, event, len)?;
         self.chart.note(event)?;

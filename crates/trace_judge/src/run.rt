@@ -1,10 +1,11 @@
 //! Judges a recorded run, which is one list of lines or several.
 ghost use Rattle.std.specs.Prelude.{◌≡◌, ◌*◌, ◌<◌, ◌≤◌, [], ◌∷◌, ℕ, List, IfErr, IfOk, IsTrue, OnOk, Some, map};
+ghost use Rattle.trace_lines.specs.Reader.{KeepsLines};
 ghost use Rattle.std.specs.List.{All};
 ghost use Rattle.trace_judge.specs.Inner.Judged.{Begins, Judges, JudgesNext, JudgesSome};
 ghost use Rattle.trace_judge.specs.Inner.Taken.{IsBroken};
-ghost use Rattle.trace_judge.specs.Input.{lines_left};
-ghost use Rattle.trace_judge.specs.Lists.{AreSafe};
+ghost use Rattle.trace_judge.specs.Input.{IsReadToEnd, KeepKnown, known_of, read_of};
+ghost use Rattle.trace_judge.specs.Lists.{HaveSafeMerge};
 ghost use Rattle.trace_judge.specs.Numbers.{number_tests};
 ghost use Rattle.trace_judge.specs.Run.{SafeRun};
 
@@ -54,6 +55,9 @@ impl From<AllocError> for Stop {
 /// Returns the exit status: 0 if the run is safe, 1 if the next line of each list breaks a rule, 2
 /// if a line is no event, and 3 if an input cannot be read, or if there is no memory. The answer is
 /// empty if there is no memory to write it.
+///
+/// If the status is 0, every input was read to its end, and the lines that were read have an order
+/// that keeps the order of each input, and in which they are a safe run.
 pub fn run<B: BufRead>(
     alloc: Global,
     lists: &mut [Lines<B>],
@@ -61,9 +65,13 @@ pub fn run<B: BufRead>(
     is_drawn: bool,
     answer: &mut String,
 ) -> u8
-    ensures safe { result ≡ 0 → AreSafe number_tests (map (lines_left B.remaining) lists.old) }
-    ensures alone { result ≡ 0 → (lines : List (List ℕ)) →
-        map (lines_left B.remaining) lists.old ≡ Some lines ∷ [] → SafeRun number_tests lines }
+    ensures ended { result ≡ 0 → All IsReadToEnd lists.new }
+    ensures safe { result ≤ 1 →
+        HaveSafeMerge number_tests (map read_of lists.old) (map read_of lists.new) }
+    ensures whole { result ≡ 0 → (all : List (List (List ℕ))) →
+        map (known_of B.remaining) lists.old ≡ map Some all → map read_of lists.new ≡ all }
+    ensures alone { result ≡ 0 → (lines : List (List ℕ)) → map read_of lists.old ≡ [] ∷ [] →
+        map (known_of B.remaining) lists.old ≡ Some lines ∷ [] → SafeRun number_tests lines }
 {
     match judge_lists(alloc, lists, progress, is_drawn, answer) {
         Ok(status) => status,
@@ -83,8 +91,10 @@ fn judge_lists<B: BufRead>(
     is_drawn: bool,
     answer: &mut String,
 ) -> Result<u8, AllocError>
-    ensures { IfOk result (λ status. status ≡ 0 →
-        AreSafe number_tests (map (lines_left B.remaining) lists.old)) }
+    ensures ended { IfOk result (λ status. status ≡ 0 → All IsReadToEnd lists.new) }
+    ensures safe { IfOk result (λ status. status ≤ 1 →
+        HaveSafeMerge number_tests (map read_of lists.old) (map read_of lists.new)) }
+    ensures known { IfOk result (λ status. status ≤ 1 → KeepKnown B.remaining lists.old lists.new) }
 {
     traces_are_executions::<u64, u64, u64, Option<u64>>();
     applied_traces_are_executions::<u64, u64, u64, Option<u64>>();
@@ -105,8 +115,9 @@ fn begin<B: BufRead>(
     lists: &mut [Lines<B>],
     is_drawn: bool,
 ) -> Result<(Vec<u8>, Judge), Stop>
-    ensures { IfOk result (λ b. Begins number_tests (map (lines_left B.remaining) lists.old)
-        (map (lines_left B.remaining) lists.new) b.0.items b.1) }
+    ensures begins { IfOk result (λ b.
+        Begins number_tests (map read_of lists.old) (map read_of lists.new) b.0.items b.1) }
+    ensures known { IfOk result (λ _. KeepKnown B.remaining lists.old lists.new) }
 {
     if lists.is_empty() {
         return Err(Stop::Line(Fault::Malformed));
@@ -116,7 +127,7 @@ fn begin<B: BufRead>(
     if !first.has_next()? {
         return Err(Stop::Line(Fault::Malformed));
     }
-    let line = first.line.as_slice().to_vec(alloc)?;
+    let line = first.line().to_vec(alloc)?;
     let judge = start(alloc, &line, is_drawn, is_alone)?;
     first.pass();
     Ok((line, judge))
@@ -139,8 +150,9 @@ fn take_lines<B: BufRead>(
     judge: &mut Judge,
     mut progress: Progress,
 ) -> Result<(), (usize, Stop)>
-    ensures { OnOk result (JudgesSome number_tests first_line.now (map (lines_left B.remaining) lists.old)
-        (map (lines_left B.remaining) lists.new) judge.old judge.new) }
+    ensures judged { OnOk result (JudgesSome number_tests first_line.now (map read_of lists.old)
+        (map read_of lists.new) judge.old judge.new) }
+    ensures known { OnOk result (KeepKnown B.remaining lists.old lists.new) }
 {
     let mut at = 0;
     let mut refused = 0;
@@ -195,17 +207,18 @@ fn take_next<B: BufRead>(
     list: &mut Lines<B>,
     judge: &mut Judge,
 ) -> Result<bool, Stop>
-    ensures { OnOk result (JudgesNext number_tests first_line.now (lines_left B.remaining list.old)
-        (lines_left B.remaining list.new) judge.old judge.new) }
+    ensures judged { OnOk result (JudgesNext number_tests first_line.now (read_of list.old)
+        (read_of list.new) judge.old judge.new) }
+    ensures known { OnOk result (KeepsLines B.remaining list.old.reader list.new.reader) }
 {
     if !list.has_next()? {
         return Ok(false);
     }
     let place = Place {
         list: number,
-        line: list.number,
+        line: list.number(),
     };
-    match take_line(alloc, first_line, place, fills, &list.line, judge) {
+    match take_line(alloc, first_line, place, fills, list.line(), judge) {
         Ok(()) => {
             list.pass();
             Ok(true)
@@ -245,8 +258,8 @@ fn take_line(
 }
 
 /// Whether all lists are at their end.
-fn are_ended<B: BufRead>(lists: &[Lines<B>]) -> bool
-    ensures { IsTrue result → All (λ list. lines_left B.remaining list ≡ Some []) lists.now }
+fn are_ended<B>(lists: &[Lines<B>]) -> bool
+    ensures { IsTrue result → All IsReadToEnd lists.now }
 {
     for list in lists {
         if !list.is_ended() {
@@ -258,14 +271,13 @@ fn are_ended<B: BufRead>(lists: &[Lines<B>]) -> bool
 
 /// Writes the chart, and then that the run is safe if all lists are at their end, or the lines that
 /// they wait with. Returns the exit status.
-fn push_verdict<B: BufRead>(
+fn push_verdict<B>(
     alloc: Global,
     answer: &mut String,
     lists: &[Lines<B>],
     judge: &mut Judge,
 ) -> Result<u8, AllocError>
-    ensures { IfOk result (λ status. status ≡ 0 →
-        All (λ list. lines_left B.remaining list ≡ Some []) lists.now) }
+    ensures { IfOk result (λ status. status ≡ 0 → All IsReadToEnd lists.now) }
 {
     if !are_ended(lists) {
         judge.chart.push_refused_to(answer)?;
@@ -325,8 +337,8 @@ fn push_wait<B>(
 ) -> Result<(), AllocError> {
     if let Some(wait) = list.wait {
         list.push_place(answer)?;
-        push_fault(alloc, answer, &list.line, false, wait.fault)?;
-        push_why(alloc, answer, lists, judge, &list.line, wait.fault)?;
+        push_fault(alloc, answer, list.line(), false, wait.fault)?;
+        push_why(alloc, answer, lists, judge, list.line(), wait.fault)?;
     }
     Ok(())
 }
@@ -341,7 +353,7 @@ fn push_stop<B>(
     at: usize,
     stop: Stop,
 ) -> Result<u8, AllocError>
-    ensures { IfOk result (λ status. 0 < status) }
+    ensures { IfOk result (λ status. 1 < status) }
 {
     let Some(list) = lists.get(at) else {
         return Ok(3);
@@ -355,8 +367,8 @@ fn push_stop<B>(
             push_fault(
                 alloc,
                 answer,
-                &list.line,
-                at == 0 && list.number == 1,
+                list.line(),
+                at == 0 && list.number() == 1,
                 fault,
             )
         }

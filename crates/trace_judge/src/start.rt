@@ -7,7 +7,7 @@ ghost use Rattle.trace_judge.specs.Run.{SayOneStart, SaysStart};
 
 use crate::field::{configs, configs_count, first_index, is_named, value_of};
 use crate::names::Names;
-use safety_laws::checker::ConfigsCount;
+use safety_laws::counting::ConfigsCount;
 use serde_json::Value;
 use std::alloc::{AllocError, Global};
 

@@ -5,16 +5,16 @@ use crate::fault::Fault;
 use crate::field::{event_name, number, value_of};
 use crate::judge::Judge;
 use crate::names::push_text;
-use safety_laws::checker::Violation;
 use serde_json::Value;
 use std::alloc::{AllocError, Global};
+use trace_checker::checker::Violation;
 
 /// Writes the answer that a run is safe, and what was left out or filled in, if anything was.
 pub fn push_safe(alloc: Global, answer: &mut String, judge: &Judge) -> Result<(), AllocError> {
     let counts = &judge.counts;
     let held = &judge.checker.configs().held;
     let servers = counts.server_count(alloc, held)? as u64;
-    let terms = counts.terms.len() as u64;
+    let terms = counts.leaders.len() as u64;
     let changes = held.len() as u64;
     answer.push_str("safe: ")?;
     push_count(answer, counts.events, "event", "events")?;
@@ -84,7 +84,7 @@ pub fn push_fault(
     is_first: bool,
     fault: Fault,
 ) -> Result<u8, AllocError>
-    ensures { IfOk result (λ status. 0 < status) }
+    ensures { IfOk result (λ status. 1 < status) }
 {
     // If there is no memory, the line is not read again.
     let value = match fault {

@@ -5,11 +5,11 @@ use crate::fault::Fault;
 use crate::field::{entries, event_name, id, len, number, value_of};
 use crate::input::Lines;
 use crate::judge::Judge;
-use safety_laws::checker::Violation;
-use safety_laws::entry::Entry;
 use safety_laws::rule::Rule;
 use serde_json::Value;
 use std::alloc::{AllocError, Global};
+use trace_checker::checker::Violation;
+use trace_checker::entry::Entry;
 
 /// Writes the lines that a refused line contradicts, as far as they are known.
 pub fn push_why<B>(

@@ -1,6 +1,12 @@
 //! Judges a recorded run of a Raft cluster: one event a line, as JSON.
 #![tactic(auto)]
 
+ghost use Rattle.std.specs.Prelude.{◌≡◌, ◌≤◌, IfOk, map};
+ghost use Rattle.std.specs.List.{All};
+ghost use Rattle.trace_judge.specs.Input.{IsReadToEnd, read_of};
+ghost use Rattle.trace_judge.specs.Lists.{HaveSafeMerge};
+ghost use Rattle.trace_judge.specs.Numbers.{number_tests};
+
 mod words;
 
 use clap::ArgMatches;
@@ -93,8 +99,12 @@ fn lines_of(rt: &HostRuntime, source: Source, name: Option<String>) -> io::Resul
 }
 
 /// Judges lists of lines, and prints the answer, after a chart if that is wanted. Returns the exit
-/// status.
-fn judge_lists(rt: &HostRuntime, lists: &mut [SourceLines], is_drawn: bool) -> io::Result<u8> {
+/// status. If it is 0, the lists were read to their ends, and what was read is a safe run.
+fn judge_lists(rt: &HostRuntime, lists: &mut [SourceLines], is_drawn: bool) -> io::Result<u8>
+    ensures ended { IfOk result (λ status. status ≡ 0 → All IsReadToEnd lists.new) }
+    ensures safe { IfOk result (λ status. status ≤ 1 →
+        HaveSafeMerge number_tests (map read_of lists.old) (map read_of lists.new)) }
+{
     let mut answer = String::new(rt.alloc());
     let progress = Progress::on(rt.stderr());
     let status = run::run(rt.alloc(), lists, progress, is_drawn, &mut answer);

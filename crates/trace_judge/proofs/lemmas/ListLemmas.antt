@@ -1,34 +1,39 @@
 -- Lines that a judge takes from several lists.
-use Rattle.std.specs.Prelude.{◌≡◌, ◌<◌, ℕ, true, List, [], ◌∷◌, ◌++◌, Option, Some, None, map, option_map, length, set, slice_get, zero, suc}
+use Rattle.std.specs.Prelude.{◌≡◌, ◌<◌, ℕ, true, if◌then◌else◌, List, [], ◌∷◌, ◌++◌, Option, Some, None, map, option_map, length, set, slice_get, zero, suc}
 use Rattle.std.specs.Global.{Vec}
 use Rattle.std.specs.List.{All}
 use Rattle.std.proofs.Common.{refl, sym, ap, subst, ◌∙◌, inl, inr, append_assoc}
 use Rattle.std.proofs.lemmas.List.{append-nil, get_or-set_same, length-set, map-set, set-get_or, set-set}
-use Rattle.std.proofs.lemmas.List.Elements.{All-cons, All-head, All-map, All-nil, All-same, All-tail}
+use Rattle.std.proofs.lemmas.List.Elements.{All-cons, All-head, All-nil, All-tail}
 use Rattle.std.proofs.lemmas.Option.{get_or_from_slice_get, slice_get-get_or, slice_get-map, slice_get_within}
+use Rattle.trace_lines.specs.Lines.{lines}
+use Rattle.trace_lines.specs.Reader.{IsAtEnd, KeepsLines, lines_of, lines_read}
+use Rattle.trace_lines.specs.declared.reader.LineReader.{LineReader}
 use Rattle.safety_laws.specs.AppliedTrace.{AppliedTracesAreExecutions}
 use Rattle.safety_laws.specs.Trace.{AreExact, TermsHaveRanks, Tests, TraceEvent, TracesAreExecutions, are_allowed_by}
-use Rattle.safety_laws.specs.Checker.{configs_of, counting_of}
-use Rattle.safety_laws.specs.Counted.{IsSafeBy, IsSafeWhen, are_all_allowed, tests_by}
-use Rattle.safety_laws.specs.declared.checker.counting.ConfigsCount.{ConfigsCount}
-use Rattle.safety_laws.specs.declared.checker.counting.ConfigsCount.TheVariants.{WhenAppended, WhenApplied}
-use Rattle.safety_laws.specs.declared.memberships.Memberships.{Memberships}
+use Rattle.trace_checker.specs.Checker.{configs_of, counting_of}
+use Rattle.trace_checker.specs.Counted.{IsSafeBy, IsSafeWhen, are_all_allowed, tests_by}
+use Rattle.safety_laws.specs.declared.counting.ConfigsCount.{ConfigsCount}
+use Rattle.safety_laws.specs.declared.counting.ConfigsCount.TheVariants.{WhenAppended, WhenApplied}
+use Rattle.trace_checker.specs.declared.memberships.Memberships.{Memberships}
 use Rattle.trace_judge.specs.Inner.Judged.{Begins, HasJudged, Judges, JudgesNext, JudgesSome}
 use Rattle.trace_judge.specs.Inner.Table.{numbering}
 use Rattle.trace_judge.specs.Inner.Taken.{GoesOn, HasTaken, IsStarted, Refuses, SaysStartOf, Takes, tests_for}
-use Rattle.trace_judge.specs.Lists.{AreSafe, IsMerge, TakesFronts}
+use Rattle.trace_judge.specs.Input.{IsReadToEnd, KeepKnown, known_of, read_of}
+use Rattle.trace_judge.specs.Lists.{HaveSafeMerge, IsMerge}
 use Rattle.trace_judge.specs.Run.{LeavesStartsOut, SafeRun, SayOneStart, SaysStart, and_lines}
+use Rattle.trace_judge.specs.declared.input.Lines.{Lines}
 use Rattle.trace_judge.specs.declared.judge.Judge.{Judge}
 use Rattle.trace_judge.proofs.lemmas.NameLemmas.{start_more}
 
--- ---- fronts of lists
+-- ---- lists that grow
 
-pub takes_fronts_more : (lists mid left : List (List (List ℕ))) (some more : List (List ℕ)) → TakesFronts lists some mid
-    → TakesFronts mid more left → TakesFronts lists (some ++ more) left
-takes_fronts_more lists mid left [] more one two =
-    subst (λ (l : List (List (List ℕ))). TakesFronts l more left) one two
-takes_fronts_more lists mid left (line ∷ some) more one two =
-    (one.0, one.1, one.2, takes_fronts_more (set lists one.0 one.1) mid left some more one.3 two)
+merge_more : (lists mid grown : List (List (List ℕ))) (some more : List (List ℕ)) → IsMerge lists some mid
+    → IsMerge mid more grown → IsMerge lists (some ++ more) grown
+merge_more lists mid grown [] more one two =
+    subst (λ (l : List (List (List ℕ))). IsMerge l more grown) one two
+merge_more lists mid grown (line ∷ some) more one two =
+    (one.0, one.1, one.2, merge_more (set lists one.0 (one.1 ++ line ∷ [])) mid grown some more one.3 two)
 
 slice_get-set : (lists : List (List (List ℕ))) (i : ℕ) (old new : List (List ℕ)) → slice_get lists i ≡ Some old
     → slice_get (set lists i new) i ≡ Some new
@@ -37,44 +42,38 @@ slice_get-set lists i old new is =
     let still : i < length (set lists i new) = subst (λ (n : ℕ). i < n) (sym (length-set lists i new)) within in
     slice_get-get_or (set lists i new) i [] still ∙ ap Some (get_or-set_same lists i new [] within)
 
--- lines are taken from the front of one list
-pub takes_fronts_one : (lists : List (List (List ℕ))) (i : ℕ) (some left : List (List ℕ))
-    → slice_get lists i ≡ Some (some ++ left) → TakesFronts lists some (set lists i left)
-takes_fronts_one lists i [] left is =
-    ap (λ (l : List (List ℕ)). set lists i l) (sym (get_or_from_slice_get lists i left [] is)) ∙ set-get_or lists i []
-takes_fronts_one lists i (line ∷ some) left is = (
-  i,
-  some ++ left,
-  is,
-  subst (λ (l : List (List (List ℕ))). TakesFronts (set lists i (some ++ left)) some l) (set-set lists i (some ++ left) left)
-      (takes_fronts_one (set lists i (some ++ left)) i some left (slice_get-set lists i (line ∷ some ++ left) (some ++ left) is)),
-)
+set-same : (lists : List (List (List ℕ))) (i : ℕ) (list : List (List ℕ)) → slice_get lists i ≡ Some list
+    → set lists i list ≡ lists
+set-same lists i list is =
+    ap (λ (l : List (List ℕ)). set lists i l) (sym (get_or_from_slice_get lists i list [] is)) ∙ set-get_or lists i []
+
+-- one of the lists grows
+merge_one : (lists : List (List (List ℕ))) (i : ℕ) (list some : List (List ℕ)) → slice_get lists i ≡ Some list
+    → IsMerge lists some (set lists i (list ++ some))
+merge_one lists i list [] is = ap (λ (l : List (List ℕ)). set lists i l) (append-nil list) ∙ set-same lists i list is
+merge_one lists i list (line ∷ some) is =
+    let longer : List (List ℕ) = list ++ line ∷ [] in (
+      i,
+      list,
+      is,
+      subst (λ (l : List (List (List ℕ))). IsMerge (set lists i longer) some l)
+          (set-set lists i longer (longer ++ some)
+          ∙ ap (λ (l : List (List ℕ)). set lists i l) (append_assoc list (line ∷ []) some))
+          (merge_one (set lists i longer) i longer some (slice_get-set lists i list longer is)),
+    )
 
 -- one list has the only order that keeps its order
-takes_fronts_alone : (list merged : List (List ℕ)) (left : List (List (List ℕ))) → TakesFronts (list ∷ []) merged left
-    → (rest : List (List ℕ)) × (list ≡ merged ++ rest) × (left ≡ rest ∷ [])
-takes_fronts_alone list [] left is = (list, refl, is)
-takes_fronts_alone list (line ∷ later) left (zero, after, at, takes) =
-    let next = takes_fronts_alone after later left takes in
-    let cut : list ≡ line ∷ after = cc in
-    (next.0, cut ∙ ap (λ (l : List (List ℕ)). line ∷ l) next.1, next.2)
-takes_fronts_alone list (line ∷ later) left (suc i, after, at, takes) = cc
+merge_alone : (list some : List (List ℕ)) (grown : List (List (List ℕ))) → IsMerge (list ∷ []) some grown
+    → grown ≡ (list ++ some) ∷ []
+merge_alone list [] grown is = is ∙ ap (λ (l : List (List ℕ)). l ∷ []) (sym (append-nil list))
+merge_alone list (line ∷ later) grown (zero, found, at, grows) =
+    let same : found ≡ list = cc in
+    merge_alone (found ++ line ∷ []) later grown grows
+    ∙ ap (λ (l : List (List ℕ)). l ∷ [])
+    (append_assoc found (line ∷ []) later ∙ ap (λ (l : List (List ℕ)). l ++ line ∷ later) same)
+merge_alone list (line ∷ later) grown (suc i, found, at, grows) = cc
 
-pub merge_alone : (list merged : List (List ℕ)) → IsMerge (list ∷ []) merged → merged ≡ list
-merge_alone list merged is =
-    let alone = takes_fronts_alone list merged is.0 is.1 in
-    let none : alone.0 ≡ [] = All-head (λ (l : List (List ℕ)). l ≡ []) alone.0 []
-    (All-same (λ (l : List (List ℕ)). l ≡ []) (alone.0 ∷ []) is.0 (sym alone.2) is.2) in
-    sym (alone.1 ∙ ap (λ (l : List (List ℕ)). merged ++ l) none ∙ append-nil merged)
-
-all_ended : (lists : List (List (List ℕ))) → All (λ (o : Option (List (List ℕ))). o ≡ Some []) (map Some lists)
-    → All (λ (l : List (List ℕ)). l ≡ []) lists
-all_ended [] ended = All-nil (λ (l : List (List ℕ)). l ≡ [])
-all_ended (l ∷ lists) ended =
-    let here : Some l ≡ Some [] = All-head (λ (o : Option (List (List ℕ))). o ≡ Some []) (Some l) (map Some lists) ended in
-    let same : l ≡ [] = cc in
-    All-cons (λ (k : List (List ℕ)). k ≡ []) l lists same
-    (all_ended lists (All-tail (λ (o : Option (List (List ℕ))). o ≡ Some []) (Some l) (map Some lists) ended))
+-- ---- lists of which all lines are known
 
 -- a list that is known has these lines
 known_by : (found : Option (List (List ℕ))) (known : Option (List (List ℕ))) → option_map Some found ≡ Some known
@@ -88,6 +87,41 @@ known_at : (lists : List (List (List ℕ))) (all : List (Option (List (List ℕ)
 known_at lists all i known are is =
     known_by (slice_get lists i) known
     (sym (slice_get-map Some lists i) ∙ ap (λ (l : List (Option (List (List ℕ)))). slice_get l i) (sym are) ∙ is)
+
+-- what is known of lists stays known if one of them keeps its lines
+pub keep_known : {B : Type 0} (remaining : B → Option (List ℕ)) (xs : List (Lines B)) (i : ℕ) (x y : Lines B)
+    → slice_get xs i ≡ Some x → KeepsLines remaining x.reader y.reader → KeepKnown remaining xs (set xs i y)
+keep_known remaining xs i x y at keeps all are =
+    let here = known_at all (map (known_of remaining) xs) i (known_of remaining x) are
+    (slice_get-map (known_of remaining) xs i ∙ ap (option_map (known_of remaining)) at) in
+    map-set (known_of remaining) xs i y
+    ∙ ap (λ (l : List (Option (List (List ℕ)))). set l i (known_of remaining y)) are
+    ∙ ap (λ (o : Option (List (List ℕ))). set (map Some all) i o) (keeps here.0 here.2)
+    ∙ sym (map-set Some all i here.0) ∙ ap (map Some) (set-same all i here.0 here.1)
+
+-- a list that was read to its end has no more lines than those that were read
+known_at_end : {B : Type 0} (remaining : B → Option (List ℕ)) (reader : LineReader B) → IsAtEnd reader
+    → lines_of remaining reader ≡ Some (lines_read reader)
+known_at_end remaining reader ended =
+    ap (λ b. option_map (λ ls. lines_read reader ++ (if reader.is_pending then reader.line.items ∷ ls else ls))
+    (if b then Some [] else option_map lines (remaining reader.input))) ended.1
+    ∙ ap (λ b. Some (lines_read reader ++ (if b then reader.line.items ∷ [] else []))) ended.0
+    ∙ ap Some (append-nil (lines_read reader))
+
+-- lists that were read to their ends have no more lines than those that were read
+pub all_read : {B : Type 0} (remaining : B → Option (List ℕ)) (xs : List (Lines B)) (all : List (List (List ℕ)))
+    → All IsReadToEnd xs → map (known_of remaining) xs ≡ map Some all → map read_of xs ≡ all
+all_read remaining [] [] ended are = refl
+all_read remaining [] (list ∷ all) ended are = cc
+all_read remaining (x ∷ xs) [] ended are = cc
+all_read remaining (x ∷ xs) (list ∷ all) ended are =
+    let here : known_of remaining x ≡ Some (read_of x) = known_at_end remaining x.reader (All-head IsReadToEnd x xs ended) in
+    let known : known_of remaining x ≡ Some list = cc in
+    let some : Some (read_of x) ≡ Some list = sym here ∙ known in
+    let same : read_of x ≡ list = cc in
+    let rest : map (known_of remaining) xs ≡ map Some all = cc in
+    let later = all_read remaining xs all (All-tail IsReadToEnd x xs ended) rest in
+    ap (λ (l : List (List ℕ)). l ∷ map read_of xs) same ∙ ap (λ (l : List (List (List ℕ))). list ∷ l) later
 
 -- ---- lines that say the start again are left out
 
@@ -167,48 +201,42 @@ module _ (tests : ConfigsCount → Memberships ℕ ℕ → Tests ℕ ℕ ℕ (Op
   judges_same first_line judge judged has =
       subst (λ (l : List (List ℕ)). HasJudged tests first_line l judge) (sym (append-nil judged)) has
 
-  pub judges_no_more : (first_line : List ℕ) (known : List (Option (List (List ℕ)))) (judge : Judge)
-      → JudgesSome tests first_line known known judge judge
-  judges_no_more first_line known judge lists are = ([], lists, refl, are, judges_same first_line judge)
+  pub judges_no_more : (first_line : List ℕ) (lists : List (List (List ℕ))) (judge : Judge)
+      → JudgesSome tests first_line lists lists judge judge
+  judges_no_more first_line lists judge = ([], refl, judges_same first_line judge)
+
+  -- a judge judges no line of a list
+  pub judges_no_next : (first_line : List ℕ) (list grown : List (List ℕ)) (old new : Judge) → grown ≡ list
+      → Judges tests first_line [] old new → JudgesNext tests first_line list grown old new
+  judges_no_next first_line list grown old new same judges = ([], same ∙ sym (append-nil list), judges)
 
   -- after some lines of lists, a judge judges some lines of one list
-  pub judges_more : {X : Type 0} (lines_of : X → Option (List (List ℕ))) (first_line : List ℕ)
-      (known : List (Option (List (List ℕ)))) (xs : List X) (i : ℕ) (x y : X) (old now new : Judge)
-      → slice_get xs i ≡ Some x → JudgesSome tests first_line known (map lines_of xs) old now
-      → JudgesNext tests first_line (lines_of x) (lines_of y) now new
-      → JudgesSome tests first_line known (map lines_of (set xs i y)) old new
-  judges_more lines_of first_line known xs i x y old now new at so_far next lists are =
-      let before = so_far lists are in
-      let here = known_at before.1 (map lines_of xs) i (lines_of x) before.3
-      (slice_get-map lines_of xs i ∙ ap (option_map lines_of) at) in
-      let more = next here.0 here.2 in (
-        before.0 ++ more.0,
-        set before.1 i more.1,
-        takes_fronts_more lists before.1 (set before.1 i more.1) before.0 more.0 before.2
-            (takes_fronts_one before.1 i more.0 more.1 (here.1 ∙ ap Some more.2)),
-        map-set lines_of xs i y ∙ ap (λ (l : List (Option (List (List ℕ)))). set l i (lines_of y)) before.3
-            ∙ ap (λ (o : Option (List (List ℕ))). set (map Some before.1) i o) more.3 ∙ sym (map-set Some before.1 i more.1),
-        λ judged has.
-            subst (λ (l : List (List ℕ)). HasJudged tests first_line l new) (append_assoc judged before.0 more.0)
-            (more.4 (judged ++ before.0) (before.4 judged has)),
-      )
+  pub judges_more : {X : Type 0} (read : X → List (List ℕ)) (first_line : List ℕ) (lists : List (List (List ℕ)))
+      (xs : List X) (i : ℕ) (x y : X) (old now new : Judge)
+      → slice_get xs i ≡ Some x → JudgesSome tests first_line lists (map read xs) old now
+      → JudgesNext tests first_line (read x) (read y) now new
+      → JudgesSome tests first_line lists (map read (set xs i y)) old new
+  judges_more read first_line lists xs i x y old now new at so_far next = (
+    so_far.0 ++ next.0,
+    subst (λ (l : List (List (List ℕ))). IsMerge lists (so_far.0 ++ next.0) l) (sym (map-set read xs i y))
+        (merge_more lists (map read xs) (set (map read xs) i (read y)) so_far.0 next.0 so_far.1
+        (subst (λ (l : List (List ℕ)). IsMerge (map read xs) next.0 (set (map read xs) i l)) (sym next.1)
+        (merge_one (map read xs) i (read x) next.0 (slice_get-map read xs i ∙ ap (option_map read) at)))),
+    λ judged has.
+        subst (λ (l : List (List ℕ)). HasJudged tests first_line l new) (append_assoc judged so_far.0 next.0)
+        (next.2 (judged ++ so_far.0) (so_far.2 judged has)),
+  )
 
   -- a judge begins with the first line of the list at a place
-  pub begins : {X : Type 0} (lines_of : X → Option (List (List ℕ))) (xs : List X) (i : ℕ) (x y : X) (line : List ℕ)
-      (judge : Judge) → slice_get xs i ≡ Some x
-      → ((list : List (List ℕ)) → lines_of x ≡ Some list
-      → (left : List (List ℕ)) × (list ≡ line ∷ left) × (lines_of y ≡ Some left))
-      → IsStarted tests line judge → Begins tests (map lines_of xs) (map lines_of (set xs i y)) line judge
-  begins lines_of xs i x y line judge at cut started lists are =
-      let here = known_at lists (map lines_of xs) i (lines_of x) are
-      (slice_get-map lines_of xs i ∙ ap (option_map lines_of) at) in
-      let left = cut here.0 here.2 in (
-        set lists i left.0,
-        takes_fronts_one lists i (line ∷ []) left.0 (here.1 ∙ ap Some left.1),
-        map-set lines_of xs i y ∙ ap (λ (l : List (Option (List (List ℕ)))). set l i (lines_of y)) are
-            ∙ ap (λ (o : Option (List (List ℕ))). set (map Some lists) i o) left.2 ∙ sym (map-set Some lists i left.0),
-        record { starts = started.0; kept = []; are_kept = refl; taken = started.1 },
-      )
+  pub begins : {X : Type 0} (read : X → List (List ℕ)) (xs : List X) (i : ℕ) (x y : X) (line : List ℕ) (judge : Judge)
+      → slice_get xs i ≡ Some x → read y ≡ read x ++ line ∷ [] → IsStarted tests line judge
+      → Begins tests (map read xs) (map read (set xs i y)) line judge
+  begins read xs i x y line judge at grows started = (
+    subst (λ (l : List (List (List ℕ))). IsMerge (map read xs) (line ∷ []) l) (sym (map-set read xs i y))
+        (subst (λ (l : List (List ℕ)). IsMerge (map read xs) (line ∷ []) (set (map read xs) i l)) (sym grows)
+        (merge_one (map read xs) i (read x) (line ∷ []) (slice_get-map read xs i ∙ ap (option_map read) at))),
+    record { starts = started.0; kept = []; are_kept = refl; taken = started.1 },
+  )
 
   -- lines that a judge has judged are a safe run
   safe_run : ((w : ConfigsCount) (m : Memberships ℕ ℕ) (t u : ℕ) → (tests w m).rank t ≡ (tests w m).rank u → t ≡ u)
@@ -235,27 +263,21 @@ module _ (tests : ConfigsCount → Memberships ℕ ℕ → Tests ℕ ℕ ℕ (Op
         has.taken.keeps.keeps.seen.allowed;
   }
 
-  -- a judge has judged all lines of lists
-  pub are_safe : ((w : ConfigsCount) (m : Memberships ℕ ℕ) (t u : ℕ) → (tests w m).rank t ≡ (tests w m).rank u → t ≡ u)
-      → TracesAreExecutions ℕ ℕ ℕ (Option ℕ) → AppliedTracesAreExecutions ℕ ℕ ℕ (Option ℕ) → {X : Type 0}
-      (lines_of : X → Option (List (List ℕ)))
-      (known begun : List (Option (List (List ℕ)))) (xs : List X) (first_line : List ℕ) (old new : Judge)
-      → Begins tests known begun first_line old → JudgesSome tests first_line begun (map lines_of xs) old new
-      → All (λ x. lines_of x ≡ Some []) xs → AreSafe tests known
-  are_safe ranks law applied_law lines_of known begun xs first_line old new begins judges ended lists are =
-      let one = begins lists are in
-      let others = judges one.0 one.2 in
-      let none : All (λ (l : List (List ℕ)). l ≡ []) others.1 = all_ended others.1
-      (All-same (λ (o : Option (List (List ℕ))). o ≡ Some []) (map Some others.1) (map lines_of xs) (sym others.3)
-      (All-map (λ (o : Option (List (List ℕ))). o ≡ Some []) lines_of xs ended)) in
-      record {
-        merged = first_line ∷ others.0;
-        is_merge = (others.1, takes_fronts_more lists one.0 others.1 (first_line ∷ []) others.0 one.1 others.2, none);
-        is_safe = safe_run ranks law applied_law first_line others.0 new (others.4 [] one.3);
-      }
+  -- the lines that a judge has judged are a safe run
+  pub have_safe_merge : ((w : ConfigsCount) (m : Memberships ℕ ℕ) (t u : ℕ) → (tests w m).rank t ≡ (tests w m).rank u → t ≡ u)
+      → TracesAreExecutions ℕ ℕ ℕ (Option ℕ) → AppliedTracesAreExecutions ℕ ℕ ℕ (Option ℕ)
+      → (lists begun grown : List (List (List ℕ))) (first_line : List ℕ) (old new : Judge)
+      → Begins tests lists begun first_line old → JudgesSome tests first_line begun grown old new
+      → HaveSafeMerge tests lists grown
+  have_safe_merge ranks law applied_law lists begun grown first_line old new one others = record {
+    merged = first_line ∷ others.0;
+    is_merge = merge_more lists begun grown (first_line ∷ []) others.0 one.0 others.1;
+    is_safe = safe_run ranks law applied_law first_line others.0 new (others.2 [] one.1);
+  }
 
   -- one list is safe in its own order
-  pub safe_alone : (list : List (List ℕ)) → AreSafe tests (Some list ∷ []) → SafeRun tests list
+  pub safe_alone : (list : List (List ℕ)) → HaveSafeMerge tests ([] ∷ []) (list ∷ []) → SafeRun tests list
   safe_alone list are =
-      let order = are (list ∷ []) refl in
-      subst (λ (l : List (List ℕ)). SafeRun tests l) (merge_alone list order.merged order.is_merge) order.is_safe
+      let grown : list ∷ [] ≡ are.merged ∷ [] = merge_alone [] are.merged (list ∷ []) are.is_merge in
+      let same : are.merged ≡ list = cc in
+      subst (λ (l : List (List ℕ)). SafeRun tests l) same are.is_safe

@@ -20,7 +20,7 @@ use Rattle.trace_judge.specs.Inner.Table.{Extends, IsTable, Learns, numbering}
 use Rattle.trace_judge.specs.Line.{Says, SaysEntries}
 use Rattle.trace_judge.specs.Names.{HasNumber, IsName, Name, Number, Numbering, Text}
 use Rattle.trace_judge.specs.Run.{AddsLine, Held, IsTraceOf, SaysMembership, SaysStart}
-use Rattle.safety_laws.specs.declared.checker.counting.ConfigsCount.{ConfigsCount}
+use Rattle.safety_laws.specs.declared.counting.ConfigsCount.{ConfigsCount}
 use Rattle.trace_judge.specs.declared.names.Names.{Names}
 
 -- ---- a longer table

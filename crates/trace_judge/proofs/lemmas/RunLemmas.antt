@@ -6,10 +6,10 @@ use Rattle.std.specs.Global.{Vec}
 use Rattle.serde_json.specs.Data.{Data}
 use Rattle.serde_json.specs.Read.{read}
 use Rattle.safety_laws.specs.Trace.{AreExact, Tests, TraceEvent, Campaigned, Granted, Appended, Acked, Restarted, Wrote, Committed, Applied}
-use Rattle.safety_laws.specs.Checker.{IsUnused, Keeps as KeepsEvents, KeepsAlso, OfAll, configs_of, counting_of, kept_by}
+use Rattle.trace_checker.specs.Checker.{IsUnused, Keeps as KeepsEvents, KeepsAlso, OfAll, configs_of, counting_of, kept_by}
 use Rattle.safety_laws.specs.Ranks.{IsAmong}
-use Rattle.safety_laws.specs.declared.checker.counting.ConfigsCount.{ConfigsCount}
-use Rattle.safety_laws.specs.declared.memberships.Memberships.{Memberships}
+use Rattle.safety_laws.specs.declared.counting.ConfigsCount.{ConfigsCount}
+use Rattle.trace_checker.specs.declared.memberships.Memberships.{Memberships}
 use Rattle.trace_judge.specs.Fields.{HasConfigs}
 use Rattle.trace_judge.specs.Inner.Table.{IsTable, Learns, numbering}
 use Rattle.trace_judge.specs.Inner.Taken.{Fills, GoesOn, IsStarted, KeepsMore, KeepsTrace, Refuses, Stays, Takes, TakesEvent, TakesSaid, held_by, tests_for}

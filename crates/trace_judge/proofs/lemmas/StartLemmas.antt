@@ -6,7 +6,7 @@ use Rattle.std.proofs.Common.{sym, subst}
 use Rattle.std.proofs.lemmas.Bool.{and_parts}
 use Rattle.std.proofs.lemmas.Slice.Eq.{bytes_eq-Decides}
 use Rattle.serde_json.specs.Data.{Data, Items, no_items, item}
-use Rattle.safety_laws.specs.declared.checker.counting.ConfigsCount.{ConfigsCount}
+use Rattle.safety_laws.specs.declared.counting.ConfigsCount.{ConfigsCount}
 use Rattle.trace_judge.specs.Fields.{HasConfigs, IsConfig, IsCounting, IsFirst, SayEach}
 use Rattle.trace_judge.specs.Names.{AreApart, HasNumber, Numbering}
 use Rattle.trace_judge.specs.Run.{SayOneStart, SaysStart}

@@ -1,10 +1,10 @@
 -- The lines of lists that a judge has judged.
-use Rattle.std.specs.Prelude.{◌≡◌, ℕ, List, [], ◌∷◌, ◌++◌, Option, Some, map}
+use Rattle.std.specs.Prelude.{◌≡◌, ℕ, List, [], ◌∷◌, ◌++◌, Option}
 use Rattle.safety_laws.specs.Trace.{Tests}
-use Rattle.safety_laws.specs.declared.checker.counting.ConfigsCount.{ConfigsCount}
-use Rattle.safety_laws.specs.declared.memberships.Memberships.{Memberships}
+use Rattle.safety_laws.specs.declared.counting.ConfigsCount.{ConfigsCount}
+use Rattle.trace_checker.specs.declared.memberships.Memberships.{Memberships}
 use Rattle.trace_judge.specs.Inner.Taken.{HasTaken, SaysStartOf}
-use Rattle.trace_judge.specs.Lists.{TakesFronts}
+use Rattle.trace_judge.specs.Lists.{IsMerge}
 use Rattle.trace_judge.specs.Run.{LeavesStartsOut, and_lines}
 use Rattle.trace_judge.specs.declared.judge.Judge.{Judge}
 
@@ -21,24 +21,16 @@ module _ (tests : ConfigsCount → Memberships ℕ ℕ → Tests ℕ ℕ ℕ (Op
   Judges first_line some old new =
       (judged : List (List ℕ)) → HasJudged first_line judged old → HasJudged first_line (judged ++ some) new
 
-  -- a judge judges some lines at the front of a list, if its lines are known
-  abbrev pub JudgesNext : List ℕ → Option (List (List ℕ)) → Option (List (List ℕ)) → Judge → Judge → Type 0
-  JudgesNext first_line known known_left old new =
-      (list : List (List ℕ)) → known ≡ Some list
-      → (some : List (List ℕ)) × (left : List (List ℕ)) × (list ≡ some ++ left) × (known_left ≡ Some left)
-      × Judges first_line some old new
+  -- a judge judges the lines by which a list has grown
+  abbrev pub JudgesNext : List ℕ → List (List ℕ) → List (List ℕ) → Judge → Judge → Type 0
+  JudgesNext first_line list grown old new =
+      (some : List (List ℕ)) × (grown ≡ list ++ some) × Judges first_line some old new
 
-  -- a judge judges some lines at the fronts of lists, if their lines are known
-  abbrev pub JudgesSome : List ℕ → List (Option (List (List ℕ))) → List (Option (List (List ℕ))) → Judge
-      → Judge → Type 0
-  JudgesSome first_line known known_left old new =
-      (lists : List (List (List ℕ))) → known ≡ map Some lists
-      → (some : List (List ℕ)) × (left : List (List (List ℕ))) × TakesFronts lists some left
-      × (known_left ≡ map Some left) × Judges first_line some old new
+  -- a judge judges the lines by which lists have grown, in an order that keeps the order of each list
+  abbrev pub JudgesSome : List ℕ → List (List (List ℕ)) → List (List (List ℕ)) → Judge → Judge → Type 0
+  JudgesSome first_line lists grown old new =
+      (some : List (List ℕ)) × IsMerge lists some grown × Judges first_line some old new
 
-  -- a judge begins with a line at the front of lists, if their lines are known
-  abbrev pub Begins : List (Option (List (List ℕ))) → List (Option (List (List ℕ))) → List ℕ → Judge → Type 0
-  Begins known known_left first_line judge =
-      (lists : List (List (List ℕ))) → known ≡ map Some lists
-      → (left : List (List (List ℕ))) × TakesFronts lists (first_line ∷ []) left
-      × (known_left ≡ map Some left) × HasJudged first_line [] judge
+  -- a judge begins with a line by which lists have grown
+  abbrev pub Begins : List (List (List ℕ)) → List (List (List ℕ)) → List ℕ → Judge → Type 0
+  Begins lists grown first_line judge = IsMerge lists (first_line ∷ []) grown × HasJudged first_line [] judge

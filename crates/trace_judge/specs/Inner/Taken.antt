@@ -2,10 +2,10 @@
 use Rattle.std.specs.Prelude.{◌≡◌, ℕ, List, [], ◌∷◌, Option, Some, None}
 use Rattle.serde_json.specs.Data.{Data}
 use Rattle.safety_laws.specs.Trace.{AreExact, Tests, TraceEvent}
-use Rattle.safety_laws.specs.Checker.{Keeps, configs_of, counting_of, kept_by}
-use Rattle.safety_laws.specs.declared.checker.counting.ConfigsCount.{ConfigsCount}
-use Rattle.safety_laws.specs.declared.checker.violation.Violation.TheVariants.{Rule as BreaksRule}
-use Rattle.safety_laws.specs.declared.memberships.Memberships.{Memberships}
+use Rattle.trace_checker.specs.Checker.{Keeps, configs_of, counting_of, kept_by}
+use Rattle.safety_laws.specs.declared.counting.ConfigsCount.{ConfigsCount}
+use Rattle.trace_checker.specs.declared.checker.violation.Violation.TheVariants.{Rule as BreaksRule}
+use Rattle.trace_checker.specs.declared.memberships.Memberships.{Memberships}
 use Rattle.trace_judge.specs.Inner.Table.{Extends, IsTable, numbering}
 use Rattle.trace_judge.specs.Inner.Votes.{AreVotesIn}
 use Rattle.trace_judge.specs.Line.{Says}

@@ -1,8 +1,8 @@
 use Rattle.std.proofs.Common.{ℕ, IfSome, Option, Some, None}
 use Rattle.serde_json.specs.Data.{Data}
 use Rattle.serde_json.specs.View.{view}
-use Rattle.safety_laws.specs.Checker.{event_of as trace_event}
-use Rattle.safety_laws.specs.declared.event.Event.{Event}
+use Rattle.trace_checker.specs.Checker.{event_of as trace_event}
+use Rattle.trace_checker.specs.declared.event.Event.{Event}
 use Rattle.trace_judge.specs.Inner.Table.{numbering}
 use Rattle.trace_judge.specs.Line.{Says}
 use Rattle.trace_judge.specs.Names.{Numbering}

@@ -1,5 +1,5 @@
 use Rattle.std.proofs.Common.{ℕ, ap, subst, ◌∙◌}
-use Rattle.safety_laws.specs.Checker.{configs_of}
+use Rattle.trace_checker.specs.Checker.{configs_of}
 use Rattle.safety_laws.specs.Ranks.{IsAmong}
 use Rattle.trace_judge.proofs.lemmas.RunLemmas.{among_at}
 use Rattle.trace_judge.proofs.judge.held_by.Goals as goal

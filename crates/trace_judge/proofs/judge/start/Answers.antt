@@ -1,6 +1,6 @@
 use Rattle.std.proofs.Common.{ℕ}
 use Rattle.std.proofs.lemmas.Bool.{eqb-true}
-use Rattle.safety_laws.specs.declared.memberships.Memberships.{Memberships}
+use Rattle.trace_checker.specs.declared.memberships.Memberships.{Memberships}
 use Rattle.trace_judge.specs.Numbers.{number_tests}
 use Rattle.trace_judge.proofs.lemmas.RunLemmas.{exact_when, started}
 use Rattle.trace_judge.proofs.judge.start.Goals as goal

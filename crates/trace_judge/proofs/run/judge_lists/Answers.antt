@@ -1,21 +1,21 @@
-use Rattle.std.proofs.Common.{◌≡◌, map}
-use Rattle.std.specs.Prelude.{[], Some}
-use Rattle.std.specs.List.{All}
+use Rattle.std.proofs.Common.{map}
 use Rattle.std.proofs.lemmas.Result.{IfOk-weaker}
-use Rattle.trace_judge.specs.Input.{lines_left}
-use Rattle.trace_judge.specs.Lists.{AreSafe}
+use Rattle.trace_judge.specs.Input.{read_of}
 use Rattle.trace_judge.specs.Numbers.{number_tests}
-use Rattle.trace_judge.proofs.lemmas.ListLemmas.{are_safe}
+use Rattle.trace_judge.proofs.lemmas.ListLemmas.{have_safe_merge}
 use Rattle.trace_judge.proofs.run.judge_lists.Goals as goal
 
-pub returns-in-Ok-take_lines : goal.returns-in-Ok-take_lines
-returns-in-Ok-take_lines g c =
-    IfOk-weaker c.push_verdict.result
-    (λ status. status ≡ 0 → All (λ list. lines_left g.B.Read.remaining list ≡ Some []) c.take_lines.new.lists)
-    (λ status. status ≡ 0 → AreSafe number_tests (map (lines_left g.B.Read.remaining) c.args.lists.now))
-    (λ status ended safe.
-    are_safe number_tests (λ w m t u e. e) c.traces_are_executions.ensures c.applied_traces_are_executions.ensures
-    (lines_left g.B.Read.remaining)
-    (map (lines_left g.B.Read.remaining) c.args.lists.now) (map (lines_left g.B.Read.remaining) c.begin.new.lists)
-    c.take_lines.new.lists c.in-Ok.begun.0.items c.in-Ok.begun.1 c.take_lines.new.judge c.in-Ok.ensures
-    (rw c.deref.ensures.value at c.in-Ok-take_lines.ensures) (ended safe)) c.push_verdict.ensures
+pub returns-in-Ok-take_lines-clause-safe : goal.returns-in-Ok-take_lines-clause-safe
+returns-in-Ok-take_lines-clause-safe g c =
+    let safe =
+    have_safe_merge number_tests (λ w m t u e. e) c.traces_are_executions.ensures c.applied_traces_are_executions.ensures
+    (map read_of c.args.lists.now) (map read_of c.begin.new.lists) (map read_of c.take_lines.new.lists)
+    c.in-Ok.begun.0.items c.in-Ok.begun.1 c.take_lines.new.judge c.in-Ok.ensures.begins
+    (rw c.deref.ensures.value at c.in-Ok-take_lines.ensures.judged) in
+    IfOk-weaker c.push_verdict.result _ _ (λ status ended low. safe) c.push_verdict.ensures
+
+pub returns-in-Ok-take_lines-clause-known : goal.returns-in-Ok-take_lines-clause-known
+returns-in-Ok-take_lines-clause-known g c =
+    IfOk-weaker c.push_verdict.result _ _
+    (λ status ended low all known. c.in-Ok-take_lines.ensures.known all (c.in-Ok.ensures.known all known))
+    c.push_verdict.ensures

@@ -1,7 +1,7 @@
 use Rattle.std.proofs.Common.{sym, ◌∙◌}
 use Rattle.std.proofs.lemmas.Bool.{not-false}
 use denote.Enum.Bare.{same_true}
-use Rattle.safety_laws.specs.contracts.checker.counting.ConfigsCount.{the_type}
+use Rattle.safety_laws.specs.contracts.counting.ConfigsCount.{the_type}
 use Rattle.trace_judge.specs.Inner.Table.{numbering}
 use Rattle.trace_judge.proofs.lemmas.NameLemmas.{start_more}
 use Rattle.trace_judge.proofs.lemmas.StartLemmas.{say_one_start}

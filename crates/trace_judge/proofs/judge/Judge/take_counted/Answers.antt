@@ -1,5 +1,5 @@
 use Rattle.std.proofs.Common.{None, refl}
-use Rattle.safety_laws.specs.Checker.{event_of as trace_event}
+use Rattle.trace_checker.specs.Checker.{event_of as trace_event}
 use Rattle.trace_judge.specs.Inner.Table.{numbering}
 use Rattle.trace_judge.specs.Numbers.{number_tests}
 use Rattle.trace_judge.proofs.lemmas.RunLemmas.{takes_after}

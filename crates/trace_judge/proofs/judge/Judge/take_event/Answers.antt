@@ -1,5 +1,5 @@
 use Rattle.std.proofs.Common.{◌∷◌, refl, inl, inr}
-use Rattle.safety_laws.specs.Checker.{event_of as trace_event}
+use Rattle.trace_checker.specs.Checker.{event_of as trace_event}
 use Rattle.trace_judge.specs.Numbers.{number_tests}
 use Rattle.trace_judge.proofs.lemmas.RunLemmas.{keeps_more, whatever_err}
 use Rattle.trace_judge.proofs.lemmas.VoteLemmas.{last_is_in, last_is_vote, more_votes}

@@ -1,7 +1,7 @@
 use Rattle.std.proofs.Common.{sym, ◌∙◌}
 use Rattle.std.proofs.lemmas.Bool.{not-false}
 use Rattle.std.proofs.lemmas.Result.{on_ok_weaker}
-use Rattle.safety_laws.specs.Checker.{event_of as trace_event}
+use Rattle.trace_checker.specs.Checker.{event_of as trace_event}
 use Rattle.trace_judge.specs.Numbers.{number_tests}
 use Rattle.trace_judge.proofs.lemmas.StartLemmas.{same_configs}
 use Rattle.trace_judge.proofs.lemmas.RunLemmas.{says_same, takes_known}

@@ -1,6 +1,6 @@
 use Rattle.std.proofs.Common.{nat_eq, refl}
 use Rattle.std.proofs.lemmas.Bool.{eqb-true}
-use Rattle.safety_laws.specs.Checker.{event_of as trace_event}
+use Rattle.trace_checker.specs.Checker.{event_of as trace_event}
 use Rattle.trace_judge.specs.Numbers.{number_tests}
 use Rattle.trace_judge.proofs.lemmas.RunLemmas.{exact_when, stays_new, stays_unlearned, takes_new}
 use Rattle.trace_judge.proofs.judge.Judge.take_new_membership.Goals as goal

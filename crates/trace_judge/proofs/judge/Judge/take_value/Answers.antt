@@ -1,7 +1,7 @@
 use Rattle.std.proofs.Common.{Some}
 use Rattle.std.proofs.lemmas.Result.{on_ok_weaker}
 use Rattle.serde_json.specs.View.{view}
-use Rattle.safety_laws.specs.Checker.{event_of as trace_event}
+use Rattle.trace_checker.specs.Checker.{event_of as trace_event}
 use Rattle.trace_judge.specs.Inner.Table.{numbering}
 use Rattle.trace_judge.proofs.judge.Judge.take_value.Goals as goal
 
