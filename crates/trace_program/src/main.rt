@@ -11,10 +11,11 @@ mod words;
 
 use clap::ArgMatches;
 use std::alloc::AllocError;
+use std::env::{Env as _, FillError};
 use std::fs::File;
 use std::io::{BufReader, Read, Stdin};
 use std::process::ExitCode;
-use std::{env, io};
+use std::{env, io, str};
 use trace_judge::{Lines, Progress, run};
 
 /// Where lines come from.
@@ -35,6 +36,9 @@ impl Read for Source {
     }
 }
 
+/// How long a path is at most.
+const LONGEST: usize = 4096;
+
 /// The lines of a source, which is read ahead.
 type SourceLines = Lines<BufReader<Source>>;
 
@@ -51,14 +55,42 @@ fn main(rt: HostRuntime) -> ExitCode {
 
 /// Does what the command line asks for. Returns the exit status.
 fn run_words(rt: &HostRuntime) -> io::Result<u8> {
-    let words: Vec<String> = env::args(rt)?.collect(rt.alloc())?;
+    let args = match env::args(rt) {
+        Ok(args) => args,
+        Err(error) if error.kind() == io::ErrorKind::InvalidData => return refuse_words(rt),
+        Err(error) => return Err(error),
+    };
+    let words: Vec<String> = args.collect(rt.alloc())?;
     match words::parsed(rt.alloc(), words.as_slice()) {
         Ok(matches) => judge_files(rt, &matches),
         Err(error) => {
-            error.print(rt)?;
-            Ok(words::status_of(&error))
+            let status = words::status_of(&error);
+            match error.print(rt) {
+                // If standard error is closed, the status says enough.
+                Err(error) if status == 0 => Err(error),
+                _ => Ok(status),
+            }
         }
     }
+}
+
+/// Says which words of the command line are no UTF-8. Returns the exit status.
+fn refuse_words(rt: &HostRuntime) -> io::Result<u8> {
+    let mut bytes = [0; LONGEST];
+    for i in 0..usize::MAX {
+        match rt.arg(i, &mut bytes) {
+            Ok(len) => {
+                let word = &bytes[..len];
+                if str::from_utf8(word).is_err() {
+                    let shown = String::from_utf8_lossy(rt.alloc(), word)?;
+                    let _ = eprintln!(rt; "raft_trace: {shown}: the word is no UTF-8");
+                }
+            }
+            Err(FillError::TooLong) => {}
+            Err(FillError::NotPresent) => break,
+        }
+    }
+    Ok(2)
 }
 
 /// Judges the files that the command line names, or standard input if there is none. Returns the
