@@ -25,9 +25,9 @@ const WORDS: usize = 32;
 const LEGEND: &str = "\
 A row has the number of its line, or of its event if there are several files, then a column for each
 server, and what happens. A server has a role (L leader, C candidate, F follower), a term modulo
-100, and the part of its log around the last commit: a letter for each entry, by the entry's term. A
-server leads once it has written an entry in its term. Left of | is what it has applied, or has
-committed as the leader.
+100, and the part of its log around the last commit. Each entry is a letter, which says its term: a
+is the first term in which a leader has written, b the second one, and so on. A server leads once it
+has written an entry in its term. Left of | is what it has applied, or has committed as the leader.
 ";
 
 /// What the legend says if a server has no column.
@@ -206,7 +206,14 @@ impl Chart {
         if self.has_more {
             answer.push_str(MORE)?;
         }
-        answer.push_str(self.rows.as_str())
+        // If there was no memory for a row, a part of it is there.
+        match self.rows.as_str().rsplit_once('\n') {
+            Some((whole, _)) => {
+                answer.push_str(whole)?;
+                answer.push('\n')
+            }
+            None => Ok(()),
+        }
     }
 
     /// Takes note of the role of a server in a term. A leader stays one in its term.
