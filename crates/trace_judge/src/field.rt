@@ -111,7 +111,7 @@ fn list<'a>(value: &'a Value, name: &str) -> Option<&'a Vec<Value>>
     value.get(name).and_then(Value::as_array)
 }
 
-/// Returns a list of voters.
+/// Returns a list of voters, if it is not empty.
 fn config(alloc: Global, names: &Names, value: &Value) -> Result<Option<Vec<u64>>, AllocError>
     ensures { IfOk result
         (λ o. IfSome o (λ v. IsConfig (numbering names.now) (view value.now) v)) }
@@ -119,6 +119,9 @@ fn config(alloc: Global, names: &Names, value: &Value) -> Result<Option<Vec<u64>
     let Some(list) = value.as_array() else {
         return Ok(None);
     };
+    if list.is_empty() {
+        return Ok(None);
+    }
     let mut voters = Vec::new(alloc);
     for item in list {
         let Some(voter) = names.number_of(item) else {
@@ -129,7 +132,7 @@ fn config(alloc: Global, names: &Names, value: &Value) -> Result<Option<Vec<u64>
     Ok(Some(voters))
 }
 
-/// Returns the configs of a line, each a list of voters.
+/// Returns the configs of a line, each a list of voters: one, or the two of a joint config.
 pub fn configs(
     alloc: Global,
     names: &Names,
@@ -141,6 +144,9 @@ pub fn configs(
     let Some(list) = list(value, "voters") else {
         return Ok(None);
     };
+    if !matches!(list.len(), 1 | 2) {
+        return Ok(None);
+    }
     let mut configs = Vec::new(alloc);
     for item in list {
         let Some(config) = config(alloc, names, item)? else {

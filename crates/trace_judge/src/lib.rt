@@ -19,6 +19,7 @@ mod input;
 mod judge;
 mod names;
 mod progress;
+mod reason;
 pub mod run;
 mod start;
 mod text;

@@ -170,11 +170,29 @@ impl Names {
     }
 }
 
+/// Writes a value as JSON has it. If it is long, two dots stand for its end.
+pub fn push_value(alloc: Global, answer: &mut String, value: &Value) -> Result<(), AllocError> {
+    match value.as_str() {
+        Some(text) => push_text(alloc, answer, text),
+        None => push_short(answer, value.to_string(alloc)?.as_str()),
+    }
+}
+
 /// Writes a text as JSON has it. If it is long, two dots stand for its end.
 pub fn push_text(alloc: Global, answer: &mut String, text: &str) -> Result<(), AllocError> {
     let end = text.floor_char_boundary(SHOWN);
     let shown = Value::String(String::from_str(alloc, &text[..end])?);
     write!(answer, "{shown}")?;
+    if end < text.len() {
+        answer.push_str("..")?;
+    }
+    Ok(())
+}
+
+/// Writes a text as it is. If it is long, two dots stand for its end.
+fn push_short(answer: &mut String, text: &str) -> Result<(), AllocError> {
+    let end = text.floor_char_boundary(SHOWN);
+    answer.push_str(&text[..end])?;
     if end < text.len() {
         answer.push_str("..")?;
     }

@@ -9,7 +9,6 @@ ghost use Rattle.trace_judge.specs.Lists.{HaveSafeMerge};
 ghost use Rattle.trace_judge.specs.Numbers.{number_tests};
 ghost use Rattle.trace_judge.specs.Run.{SafeRun};
 
-use crate::chart::Chart;
 use crate::facts::Place;
 use crate::fault::Fault;
 use crate::input::Lines;
@@ -53,8 +52,8 @@ impl From<AllocError> for Stop {
 /// order of each list is kept, and no order between the lists is known.
 ///
 /// Returns the exit status: 0 if the run is safe, 1 if the next line of each list breaks a rule, 2
-/// if a line is no event, and 3 if an input cannot be read, or if there is no memory. The answer is
-/// empty if there is no memory to write it.
+/// if a line is no event, or if no cluster can start as the first line says, and 3 if an input
+/// cannot be read, or if there is no memory. The answer is empty if there is no memory to write it.
 ///
 /// If the status is 0, every input was read to its end, and the lines that were read have an order
 /// that keeps the order of each input, and in which they are a safe run.
@@ -104,7 +103,7 @@ fn judge_lists<B: BufRead>(
     };
     match take_lines(alloc, &first_line, lists, &mut judge, progress) {
         Ok(()) => push_verdict(alloc, answer, lists, &mut judge),
-        Err((at, stop)) => push_stop(alloc, answer, Some(&judge.chart), lists, at, stop),
+        Err((at, stop)) => push_stop(alloc, answer, Some(&judge), lists, at, stop),
     }
 }
 
@@ -337,18 +336,18 @@ fn push_wait<B>(
 ) -> Result<(), AllocError> {
     if let Some(wait) = list.wait {
         list.push_place(answer)?;
-        push_fault(alloc, answer, list.line(), false, wait.fault)?;
+        push_fault(alloc, answer, list.line(), false, judge.first, wait.fault)?;
         push_why(alloc, answer, lists, judge, list.line(), wait.fault)?;
     }
     Ok(())
 }
 
-/// Writes the chart, if there is one, and why the list at a place is judged no further. Returns the
-/// exit status.
+/// Writes the chart, if the cluster has started, and why the list at a place is judged no further.
+/// Returns the exit status.
 fn push_stop<B>(
     alloc: Global,
     answer: &mut String,
-    chart: Option<&Chart>,
+    judge: Option<&Judge>,
     lists: &[Lines<B>],
     at: usize,
     stop: Stop,
@@ -358,19 +357,15 @@ fn push_stop<B>(
     let Some(list) = lists.get(at) else {
         return Ok(3);
     };
-    if let Some(chart) = chart {
-        chart.push_to(answer)?;
+    let mut first = 1;
+    if let Some(judge) = judge {
+        first = judge.first;
+        judge.chart.push_to(answer)?;
     }
     match stop {
         Stop::Line(fault) => {
             list.push_place(answer)?;
-            push_fault(
-                alloc,
-                answer,
-                list.line(),
-                at == 0 && list.number() == 1,
-                fault,
-            )
+            push_fault(alloc, answer, list.line(), judge.is_none(), first, fault)
         }
         Stop::Input(error) => {
             writeln!(answer, "{}: {error}", list.name())?;

@@ -4,7 +4,8 @@ ghost use Rattle.std.specs.Prelude.{◌<◌, IfOk};
 use crate::fault::Fault;
 use crate::field::{event_name, number, value_of};
 use crate::judge::Judge;
-use crate::names::push_text;
+use crate::names::push_value;
+use crate::reason::push_reason;
 use serde_json::Value;
 use std::alloc::{AllocError, Global};
 use trace_checker::checker::Violation;
@@ -76,46 +77,30 @@ fn push_number(answer: &mut String, number: u64) -> Result<(), AllocError> {
     Ok(())
 }
 
-/// Writes why a line is not taken, which may be the first line of the run. Returns the exit status.
+/// Writes why a line is not taken, which may be the first line of the run. `first` is the index of
+/// the first entry. Returns the exit status.
 pub fn push_fault(
     alloc: Global,
     answer: &mut String,
     line: &[u8],
     is_first: bool,
+    first: u64,
     fault: Fault,
 ) -> Result<u8, AllocError>
     ensures { IfOk result (λ status. 1 < status) }
 {
-    // If there is no memory, the line is not read again.
-    let value = match fault {
-        Fault::Refused(Violation::OutOfMemory) => Value::Null,
-        _ => value_or_null(alloc, line)?,
-    };
-    push_reason(alloc, answer, &value, is_first, fault)?;
-    Ok(fault.status())
-}
-
-/// Writes why the value of a line is not taken.
-fn push_reason(
-    alloc: Global,
-    answer: &mut String,
-    value: &Value,
-    is_first: bool,
-    fault: Fault,
-) -> Result<(), AllocError> {
     match fault {
-        Fault::Refused(Violation::OutOfMemory) => answer.push_str("out of memory\n"),
-        Fault::Malformed => {
-            answer.push_str(reason(is_first, value))?;
-            answer.push('\n')
-        }
-        Fault::Skips(last) => push_skip(alloc, answer, value, last),
+        // The line is not read again.
+        Fault::Refused(Violation::OutOfMemory) => answer.push_str("out of memory\n")?,
+        Fault::Malformed => push_reason(alloc, answer, line, is_first, first)?,
+        Fault::Skips(last) => push_skip(alloc, answer, &value_or_null(alloc, line)?, last)?,
         Fault::Refused(Violation::Rule(rule)) => {
-            push_words(alloc, answer, value, event_words(value))?;
+            let value = value_or_null(alloc, line)?;
+            push_words(alloc, answer, &value, event_words(&value))?;
             writeln!(answer, ": {rule}")?;
-            Ok(())
         }
     }
+    Ok(fault.status())
 }
 
 /// Returns the value of a line, null if the line is no JSON.
@@ -152,66 +137,13 @@ fn push_words(
     for part in words.split('{') {
         match part.split_once('}') {
             Some((name, rest)) => {
-                push_field(alloc, answer, value, name)?;
+                push_value(alloc, answer, value.get(name).unwrap_or(&Value::Null))?;
                 answer.push_str(rest)?;
             }
             None => answer.push_str(part)?,
         }
     }
     Ok(())
-}
-
-/// Writes a field as JSON has it. If it is a long text, two dots stand for its end.
-fn push_field(
-    alloc: Global,
-    answer: &mut String,
-    value: &Value,
-    name: &str,
-) -> Result<(), AllocError> {
-    let field = value.get(name).unwrap_or(&Value::Null);
-    match field.as_str() {
-        Some(long) => push_text(alloc, answer, long),
-        None => {
-            write!(answer, "{field}")?;
-            Ok(())
-        }
-    }
-}
-
-/// Returns why the value of a line is no event.
-fn reason(is_first: bool, value: &Value) -> &'static str {
-    if is_first {
-        return "it has to be `started`, with lists of texts or numbers `voters`, a number `first` or none, and `configs`, if it is there, as `appended` or `applied`";
-    }
-    match event_name(value).unwrap_or("") {
-        "" => "it is no JSON with a text `event`",
-        "started" => {
-            "only the first line says how the cluster starts, and this one says another start"
-        }
-        "campaigned" => "`campaigned` needs the text or number `server`, and the number `term`",
-        "granted" => {
-            "`granted` needs the texts or numbers `server` and `candidate`, and the number `term`"
-        }
-        "appended" => {
-            "`appended` needs the texts or numbers `server` and `leader`, the number `term`, and the number `prev` and the pairs `entries`, or the number `index`; `prev` and `index` are `first - 1` or more"
-        }
-        "acked" => {
-            "`acked` needs the texts or numbers `server` and `leader`, and the numbers `term` and `index`; `index` is `first - 1` or more"
-        }
-        "restarted" => {
-            "`restarted` needs the text or number `server`, the number `index`, and a number `last_term` or none; `index` is `first - 1` or more"
-        }
-        "wrote" => {
-            "`wrote` needs the texts or numbers `leader` and `content`, the number `term`, a number `index` or none, and lists of texts or numbers `voters` or none; a content has one list of voters"
-        }
-        "committed" => {
-            "`committed` needs the text or number `leader`, the numbers `term` and `index`, and a number `counted_at` or none; `index` and `counted_at` are `first - 1` or more"
-        }
-        "applied" => {
-            "`applied` needs the text or number `server`, and the number `index`; `index` is `first - 1` or more"
-        }
-        _ => "there is no event of this name",
-    }
 }
 
 /// Returns what an event says, with the names of fields in braces.

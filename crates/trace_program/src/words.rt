@@ -26,9 +26,9 @@ Example of a run:
     {\"event\":\"restarted\",\"server\":2,\"index\":1}
 
 The status is 0 if the run is safe, and 1 if the next event of every file breaks a rule. It is 2 at a
-line that is no event, and at a word of the command line that is wrong or names a file that cannot be
-opened. It is 3 if a file cannot be read, or if there is no memory. The page docs/TRACES.md describes
-the events.";
+line that is no event, if no cluster can start as the first line says, and at a word of the command
+line that is wrong or names a file that cannot be opened. It is 3 if a file cannot be read, or if
+there is no memory. The page docs/TRACES.md describes the events.";
 
 /// The files, as the matches name them.
 pub(crate) const FILES: &str = "files";
