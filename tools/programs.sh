@@ -51,6 +51,7 @@ begin() { printf 'init 0 1 -\nupdate 1 5\n'; }
 trace() { timeout 60 crates/trace_program/out/trace_program "$@"; }
 trace_into_full_device() { trace "$@" > /dev/full; }
 trace_into_nothing() { trace "$@" >&-; }
+trace_unheard() { trace "$@" 2>&-; }
 # Has so many kilobytes of memory, and 15 seconds of a processor: with more work than the lines say it takes longer.
 trace_within() { (ulimit -v "$1" -t 15; shift; trace "$@"); }
 trace_usage() { trace "$@" | grep '^Usage: '; }
@@ -162,18 +163,17 @@ statuses() {
 # The answers of `raft_trace`, also to odd input.
 records() {
     local safe="3 servers, 0 terms with a leader, 0 committed, 0 membership changes"
-    local no_event="line 2: it is no JSON with a text \`event\`"
+    local no_json="line 2: it is no JSON at column" unexpected="this may not follow in JSON, or it is nested deeper than 127"
     compare "a safe run" 0 "$(cat crates/trace_program/stdout)" "" trace < crates/trace_program/stdin
     compare "a chart" 0 "$(cat crates/trace_program/chart.stdout)" "" trace --chart < crates/trace_program/stdin
-    compare "no record" 2 "line 1: it has to be \`started\`, with lists of texts or numbers \`voters\`, a number \`first\` or\
- none, and \`configs\`, if it is there, as \`appended\` or \`applied\`" "" trace < /dev/null
+    compare "no record" 2 "line 1: it is empty, and the first line has to be \`started\`" "" trace < /dev/null
     compare "a start alone" 0 "safe: 0 events, $safe" "" trace < <(start)
-    compare "no voters" 1 "line 1: the cluster starts: quorums of the initial config are not known to intersect" \
-        "" trace < <(printf '{"event":"started","voters":[]}')
-    compare "brackets" 2 "$no_event" "" trace < <(start; ten_megabytes '[')
-    compare "zero bytes in a record" 2 "$no_event" "" trace < <(start; head -c 10000000 /dev/zero)
-    compare "no UTF-8" 2 "$no_event" "" trace < <(start; printf '\xff\n')
-    compare "the end inside an event" 2 "$no_event" "" trace < <(start; printf '{"event":"camp')
+    compare "no voters" 2 "line 1: \`voters\` of \`started\` is [], and has to be a list of one config or two, each a list of\
+ servers that is not empty" "" trace < <(printf '{"event":"started","voters":[]}')
+    compare "brackets" 2 "$no_json 129: $unexpected" "" trace < <(start; ten_megabytes '[')
+    compare "zero bytes in a record" 2 "$no_json 1: $unexpected" "" trace < <(start; head -c 10000000 /dev/zero)
+    compare "no UTF-8" 2 "line 2: it is no UTF-8 at column 1" "" trace < <(start; printf '\xff\n')
+    compare "the end inside an event" 2 "$no_json 10: the line ends too early" "" trace < <(start; printf '{"event":"camp')
     compare "a long field" 0 "safe: 1 event, $safe" "" trace \
         < <(start; printf '{"x":"'; ten_megabytes a; printf '","event":"campaigned","server":1,"term":1}\n')
     compare "carriage returns" 0 "safe: 1 event, $safe" "" trace \
@@ -181,10 +181,9 @@ records() {
     compare "a field twice, of which the last counts" 0 "safe: 2 events, $safe" "" trace \
         < <(start; printf '{"event":"campaigned","server":1,"term":7,"term":1}\n'
             printf '{"event":"granted","server":2,"term":1,"candidate":1}\n')
-    for number in 18446744073709551616 1e2; do
-        compare "the term $number" 2 \
-            "line 2: \`campaigned\` needs the text or number \`server\`, and the number \`term\`" "" trace \
-            < <(start; printf '{"event":"campaigned","server":1,"term":%s}\n' "$number")
+    for number in 1.8446744073709552e+19 100.0; do
+        compare "the term $number" 2 "line 2: \`term\` of \`campaigned\` is $number, and has to be a number below\
+ 2^64" "" trace < <(start; printf '{"event":"campaigned","server":1,"term":%s}\n' "$number")
     done
     compare "20,000 servers" 0 \
         "safe: 20,000 events, 20,000 servers, 0 terms with a leader, 0 committed, 0 membership changes" "" trace \
@@ -193,8 +192,8 @@ records() {
         < <(start; yes '' | head -n 100000)
     compare "an index of 2^63" 1 "line 2: server 1 restarts with index 9223372036854775808: the server does not have so many entries" \
         "" trace < <(start; printf '{"event":"restarted","server":1,"index":9223372036854775808}')
-    compare "the greatest index" 2 "line 2: \`restarted\` needs the text or number \`server\`, the number \`index\`, and a number\
- \`last_term\` or none; \`index\` is \`first - 1\` or more" "" trace \
+    compare "the greatest index" 2 "line 2: \`index\` of \`restarted\` is 18446744073709551615, and has to be a number from\
+ \`first - 1\` on, and below 2^64 - 1" "" trace \
         < <(start; printf '{"event":"restarted","server":1,"index":18446744073709551615}')
     compare "a long name" 1 \
         "line 2: server \"$(printf 'a%.0s' {1..80})\".. campaigns in term 0: the server has reached or passed the term already" \
@@ -232,7 +231,8 @@ files() {
     compare "a directory" 3 "$folder: Is a directory (os error 21)" "" trace "$folder"
     compare "a directory after a start" 3 "$folder: Is a directory (os error 21)" "" trace - "$folder" < <(start)
     compare "a closed output" 3 "" "raft_trace: Bad file descriptor (os error 9)" trace_into_nothing < <(start)
-    compare "a word that is no UTF-8" 3 "" "raft_trace: invalid data" trace $'\xff' < <(start)
+    compare "a word that is no UTF-8" 2 "" $'raft_trace: a\uFFFD: the word is no UTF-8' trace $'a\xff' < <(start)
+    compare "a wrong word with standard error closed" 2 "" "" trace_unheard -v < <(start)
     compare "a file" 0 "$said" "" trace crates/trace_program/stdin
     compare "standard input among files" 0 "$said" "" trace - /dev/null < crates/trace_program/stdin
     # Each server has its own file, which has the events of the others in no order.
@@ -241,8 +241,8 @@ files() {
             | grep -vE "\"server\":[^$word],"; } > "$folder/$word"
     done
     compare "a file of each server" 0 "$said" "" trace "$folder"/[1-5]
-    compare "a server without its file" 1 "$folder/1:3: leader 1 writes an entry in term 1: the leader is not elected in the term" \
-        "" trace "$folder"/1
+    compare "a server without its file" 1 "$folder/1:3: leader 1 writes an entry in term 1: the leader is not elected in the term
+  no quorum so far has voted for 1 in term 1, only 1" "" trace "$folder"/1
     compare "a start in another file" 2 "$folder/2:1: only the first line says how the cluster starts, and this one says another start" \
         "" trace - "$folder"/2 < <(start)
     rm -rf "$folder"

@@ -40,7 +40,8 @@ pub const ROWS: [Row; 19] = [
             r#"{"event":"granted","server":2,"term":1,"candidate":3}"#,
         ],
         1,
-        "line 9: server 2 votes in term 1 for 3: the candidate has not campaigned in the term\n",
+        "line 9: server 2 votes in term 1 for 3: the candidate has not campaigned in the term\n  \
+            line 8: server 3 campaigns in term 2\n  line 3: server 2 votes in term 1 for 1\n",
     ),
     (
         &[
@@ -57,7 +58,8 @@ pub const ROWS: [Row; 19] = [
             r#"{"event":"committed","leader":1,"term":1,"index":2}"#,
         ],
         1,
-        "line 9: leader 1 commits index 2 in term 1: no quorum has acknowledged the entries\n",
+        "line 9: leader 1 commits index 2 in term 1: no quorum has acknowledged the entries\n  no \
+            quorum so far has acknowledged index 2 to 1 in term 1, only 1\n",
     ),
     (
         &[
@@ -79,13 +81,14 @@ pub const ROWS: [Row; 19] = [
     (
         &[LED, r#"{"event":"restarted","server":1,"index":0}"#],
         2,
-        "line 9: `restarted` needs the text or number `server`, the number `index`, and a number \
-            `last_term` or none; `index` is `first - 1` or more\n",
+        "line 9: `index` of `restarted` is 0, and has to be a number from `first - 1` on, and \
+            below 2^64 - 1\n",
     ),
     (
         &[LED, r#"{"event":"applied","server":1,"index":2}"#],
         1,
-        "line 9: server 1 applies up to index 2: the entries are not known to be committed\n",
+        "line 9: server 1 applies up to index 2: the entries are not known to be committed\n  no \
+            line so far says that 1 committed index 2\n",
     ),
     // Server 2 has the entry and has applied it, so it has acknowledged it before it crashed, and
     // the leader has committed it. If the server has not crashed, its lines say what it has
@@ -104,7 +107,8 @@ pub const ROWS: [Row; 19] = [
     (
         &[LED, r#"{"event":"applied","server":2,"index":2}"#],
         1,
-        "line 9: server 2 applies up to index 2: the entries are not known to be committed\n",
+        "line 9: server 2 applies up to index 2: the entries are not known to be committed\n  no \
+            line so far says that 1 committed index 2\n",
     ),
     (
         &[
@@ -112,8 +116,7 @@ pub const ROWS: [Row; 19] = [
             r#"{"event":"acked","server":[2],"term":1,"leader":1,"index":2}"#,
         ],
         2,
-        "line 9: `acked` needs the texts or numbers `server` and `leader`, and the numbers `term` \
-            and `index`; `index` is `first - 1` or more\n",
+        "line 9: `server` of `acked` is [2], and has to be a text, or a number below 2^64\n",
     ),
     (
         &[
@@ -131,7 +134,7 @@ pub const ROWS: [Row; 19] = [
         ],
         1,
         "line 9: server 3 installs a snapshot up to index 1 of 3 in term 2: the leader is not \
-            elected in the term\n",
+            elected in the term\n  no quorum so far has voted for 3 in term 2, only 3\n",
     ),
     (
         &[
@@ -150,17 +153,17 @@ pub const ROWS: [Row; 19] = [
         ],
         1,
         "line 9: server 2 installs a snapshot up to index 3 of 1 in term 1: the leader has not \
-            written so many entries\n",
+            written so many entries\n  no line so far says that 1 wrote index 3 in term 1\n",
     ),
     (
         &[LED, r#"{"event":"elected"}"#],
         2,
-        "line 9: there is no event of this name\n",
+        "line 9: there is no event \"elected\"\n",
     ),
     (
         &[LED, "{"],
         2,
-        "line 9: it is no JSON with a text `event`\n",
+        "line 9: it is no JSON at column 1: the line ends too early\n",
     ),
     (
         &[LED, r#"{"event":"started","voters":[[1,2,3]]}"#],
@@ -170,11 +173,11 @@ pub const ROWS: [Row; 19] = [
 ];
 
 /// The names of lists, in their order.
-const NAMES: [&str; 3] = ["a", "b", "c"];
+const NAMES: [&str; 5] = ["a", "b", "c", "d", "e"];
 
 /// Lists of lines, which `--` separates, and the status and the answer. Server 1 leads in term 1 by
 /// the vote of server 2.
-const LISTS: [(&str, u8, &str); 11] = [
+const LISTS: [(&str, u8, &str); 12] = [
     // Each server has its own list.
     (
         r#"{"event":"started","voters":[[1,2,3]],"first":2}
@@ -211,8 +214,10 @@ const LISTS: [(&str, u8, &str); 11] = [
 {"event":"campaigned","server":3,"term":2}
 "#,
         1,
-        "b:2: server 2 acknowledges index 1 to 3 in term 4: the leader is not elected in the term\n\
-            a:4: leader 1 commits index 1 in term 1: no quorum has acknowledged the entries\n",
+        "b:2: server 2 acknowledges index 1 to 3 in term 4: the leader is not elected in the \
+            term\n  no line so far says that 3 campaigned in term 4\na:4: leader 1 commits index \
+            1 in term 1: no quorum has acknowledged the entries\n  no quorum so far has \
+            acknowledged index 1 to 1 in term 1\n",
     ),
     // No line of a list comes before an earlier one.
     (
@@ -222,7 +227,8 @@ const LISTS: [(&str, u8, &str); 11] = [
 {"event":"campaigned","server":1,"term":1}
 "#,
         1,
-        "b:1: server 2 votes in term 1 for 1: the candidate has not campaigned in the term\n",
+        "b:1: server 2 votes in term 1 for 1: the candidate has not campaigned in the term\n  no \
+            line so far says that 1 campaigned in term 1\n",
     ),
     // The last line of a list is judged.
     (
@@ -231,7 +237,8 @@ const LISTS: [(&str, u8, &str); 11] = [
 {"event":"campaigned","server":1,"term":1}
 {"event":"applied","server":1,"index":1}"#,
         1,
-        "b:2: server 1 applies up to index 1: the entries are not known to be committed\n",
+        "b:2: server 1 applies up to index 1: the entries are not known to be committed\n  no \
+            line so far says that a leader committed index 1\n",
     ),
     // A line that is no event ends the run, whatever other lists have.
     (
@@ -242,7 +249,7 @@ const LISTS: [(&str, u8, &str); 11] = [
 {"event":"elected"}
 "#,
         2,
-        "b:2: there is no event of this name\n",
+        "b:2: there is no event \"elected\"\n",
     ),
     // A process that restarts says the start again.
     (
@@ -277,7 +284,7 @@ const LISTS: [(&str, u8, &str); 11] = [
 {"event":"started","voters":[[1]]}
 "#,
         2,
-        "a:1: it has to be `started`, with lists of texts or numbers `voters`, a number `first` or none, and `configs`, if it is there, as `appended` or `applied`\n",
+        "a:1: the first line has to be `started`\n",
     ),
     // Server 3 has not acknowledged what it applies, and its lines do not wait for another one.
     (
@@ -296,8 +303,35 @@ const LISTS: [(&str, u8, &str); 11] = [
 {"event":"applied","server":3,"index":2}
 "#,
         1,
-        "b:6: leader 2 commits index 2 in term 1: no quorum has acknowledged the entries\n\
-            c:3: server 3 applies up to index 2: the entries are not known to be committed\n",
+        "b:6: leader 2 commits index 2 in term 1: no quorum has acknowledged the entries\n  no \
+            quorum so far has acknowledged index 2 to 2 in term 1, only 2\nc:3: server 3 applies \
+            up to index 2: the entries are not known to be committed\n  no line so far says that \
+            2 committed index 2\n",
+    ),
+    // The second vote of server 3 comes first, which nothing helps, and then the line of which no
+    // list that waits has the missing event.
+    (
+        r#"{"event":"started","voters":[[1,2,3]]}
+{"event":"granted","server":1,"term":1,"candidate":3}
+{"event":"campaigned","server":1,"term":4}
+--
+{"event":"granted","server":2,"term":5,"candidate":1}
+--
+{"event":"campaigned","server":3,"term":1}
+{"event":"granted","server":3,"term":1,"candidate":2}
+--
+{"event":"granted","server":4,"term":5,"candidate":3}
+--
+{"event":"granted","server":5,"term":7,"candidate":6}
+"#,
+        1,
+        "c:2: server 3 votes in term 1 for 2: the candidate has not campaigned in the term\n  \
+            c:1: server 3 campaigns in term 1\nb:1: server 2 votes in term 5 for 1: the candidate \
+            has not campaigned in the term\n  no line so far says that 1 campaigned in term 5\n\
+            e:1: server 5 votes in term 7 for 6: the candidate has not campaigned in the term\n  \
+            no line so far says that 6 campaigned in term 7\nd:1: server 4 votes in term 5 for 3: \
+            the candidate has not campaigned in the term\n  no line so far says that 3 campaigned \
+            in term 5\n",
     ),
     // Lists may be empty.
     (

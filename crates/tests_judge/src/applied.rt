@@ -91,7 +91,7 @@ pub const ROWS: [Row; 10] = [
         &[APPLIED, WRITTEN, SECOND, COMMITTED_2],
         1,
         "line 16: leader 1 commits index 2 in term 1: the config of the quorum is not known to be \
-            committed\n",
+            committed\n  no line so far says that a leader committed index 1\n",
     ),
     (
         &[
@@ -116,7 +116,8 @@ pub const ROWS: [Row; 10] = [
 {"event":"committed","leader":1,"term":1,"index":2,"counted_at":1}"#,
         ],
         1,
-        "line 13: leader 1 commits index 2 in term 1: no quorum has acknowledged the entries\n",
+        "line 13: leader 1 commits index 2 in term 1: no quorum has acknowledged the entries\n  \
+            no quorum so far has acknowledged index 2 to 1 in term 1, only 1\n",
     ),
     // If configs count from their append on, a leader first commits an entry of its own term.
     (
@@ -139,7 +140,6 @@ pub const ROWS: [Row; 10] = [
     (
         &[r#"{"event":"started","voters":[[1,2,3]],"configs":1}"#],
         2,
-        "line 1: it has to be `started`, with lists of texts or numbers `voters`, a number `first` or \
-            none, and `configs`, if it is there, as `appended` or `applied`\n",
+        "line 1: `configs` of `started` is 1, and has to be `appended` or `applied`\n",
     ),
 ];

@@ -25,8 +25,7 @@ pub const ROWS: [Row; 6] = [
             r#"{"event":"restarted","server":2,"index":2,"last_term":"1"}"#,
         ],
         2,
-        "line 9: `restarted` needs the text or number `server`, the number `index`, and a number \
-            `last_term` or none; `index` is `first - 1` or more\n",
+        "line 9: `last_term` of `restarted` is \"1\", and has to be a number below 2^64\n",
     ),
     (
         &[

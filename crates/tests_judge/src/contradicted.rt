@@ -16,7 +16,7 @@ const KEPT: &str = r#"{"event":"started","voters":[[1,2,3]]}
 {"event":"appended","server":1,"term":2,"leader":3,"prev":1,"entries":[[2,9]]}"#;
 
 /// Runs whose answers name a line before the refused one.
-pub const ROWS: [Row; 7] = [
+pub const ROWS: [Row; 9] = [
     // A later acknowledgement of fewer entries does not make the earlier one void.
     (
         &[
@@ -80,11 +80,34 @@ pub const ROWS: [Row; 7] = [
         "line 10: server 1 votes in term 2 for 3: the candidate's log is not as up to date as the \
             server's\n  line 8: server 3 campaigns in term 2\n  line 4: leader 1 writes index 2 in term 1\n",
     ),
+    // A server says its vote for itself twice.
+    (
+        &[
+            LED,
+            r#"{"event":"granted","server":3,"term":2,"candidate":3}"#,
+        ],
+        1,
+        "line 9: server 3 votes in term 2 for 3: the server has reached or passed the term \
+            already\n  leave this line out: `campaigned` is the vote of a server for itself\n",
+    ),
+    // The leader may still write the second entry.
+    (
+        &[
+            LED,
+            r#"{"event":"appended","server":2,"term":1,"leader":1,"prev":1,"entries":[[1,7],[1,8]]}"#,
+        ],
+        1,
+        "line 9: server 2 takes entries after index 1 from 1 in term 1: the server's log is a \
+            prefix of neither its earlier log nor the leader's log\n  no line so far says that 1 \
+            wrote index 3 in term 1\n",
+    ),
     // The answer names the entry that is in place of the one that the server keeps.
     (
         &[KEPT],
         1,
-        "line 10: server 1 takes entries after index 1 from 3 in term 2: the server's log is a prefix of \
-            neither its earlier log nor the leader's log\n  line 8: leader 3 writes index 1 in term 2\n",
+        "line 10: server 1 takes entries after index 1 from 3 in term 2: the server's log is a \
+            prefix of neither its earlier log nor the leader's log\n  line 8: leader 3 writes \
+            index 1 in term 2\n  at index 1 the server has the content 7 of term 1, and the \
+            leader 8 of term 2\n",
     ),
 ];

@@ -61,7 +61,8 @@ pub const ROWS: [Row; 17] = [
 {"event":"committed","leader":1,"term":1,"index":3}"#,
         ],
         1,
-        "line 16: leader 1 commits index 3 in term 1: no quorum has acknowledged the entries\n",
+        "line 16: leader 1 commits index 3 in term 1: no quorum has acknowledged the entries\n  \
+            no quorum so far has acknowledged index 3 to 1 in term 1, only 1, 2\n",
     ),
     (
         &[
@@ -91,8 +92,7 @@ pub const ROWS: [Row; 17] = [
 {"event":"wrote","leader":1,"term":1,"index":4,"content":8,"voters":[[1,2,4]]}"#,
         ],
         2,
-        "line 12: `wrote` needs the texts or numbers `leader` and `content`, the number `term`, a number \
-            `index` or none, and lists of texts or numbers `voters` or none; a content has one list of voters\n",
+        "line 12: an earlier line has the `content` with other `voters` or none\n",
     ),
     (
         &[
@@ -100,8 +100,7 @@ pub const ROWS: [Row; 17] = [
             r#"{"event":"wrote","leader":1,"term":1,"index":3,"content":7,"voters":[[1,2,3,4]]}"#,
         ],
         2,
-        "line 9: `wrote` needs the texts or numbers `leader` and `content`, the number `term`, a number \
-            `index` or none, and lists of texts or numbers `voters` or none; a content has one list of voters\n",
+        "line 9: an earlier line has the `content` with other `voters` or none\n",
     ),
     // Voters that have no server in common.
     (
@@ -180,8 +179,10 @@ pub const ROWS: [Row; 17] = [
             r#"{"event":"appended","server":4,"term":1,"leader":1,"prev":1,"entries":[[1,8]]}"#,
         ],
         1,
-        "line 9: server 4 takes entries after index 1 from 1 in term 1: the server's log is a prefix of \
-            neither its earlier log nor the leader's log\n  line 4: leader 1 writes index 2 in term 1\n",
+        "line 9: server 4 takes entries after index 1 from 1 in term 1: the server's log is a \
+            prefix of neither its earlier log nor the leader's log\n  line 4: leader 1 writes \
+            index 2 in term 1\n  at index 2 the server has the content 8 of term 1, and the \
+            leader 7 of term 1\n",
     ),
     (
         &[

@@ -37,7 +37,8 @@ pub const ROWS: [Row; 9] = [
 {"event":"granted","server":"b","term":1,"candidate":3}"#,
         ],
         1,
-        "line 3: server \"b\" votes in term 1 for 3: the candidate has not campaigned in the term\n",
+        "line 3: server \"b\" votes in term 1 for 3: the candidate has not campaigned in the \
+            term\n  no line so far says that 3 campaigned in term 1\n",
     ),
     // Different texts are different contents.
     (
@@ -49,8 +50,10 @@ pub const ROWS: [Row; 9] = [
 {"event":"appended","server":3,"term":1,"leader":"a","prev":0,"entries":[[1,"y"]]}"#,
         ],
         1,
-        "line 5: server 3 takes entries after index 0 from \"a\" in term 1: the server's log is a prefix of \
-            neither its earlier log nor the leader's log\n  line 4: leader \"a\" writes index 1 in term 1\n",
+        "line 5: server 3 takes entries after index 0 from \"a\" in term 1: the server's log is a \
+            prefix of neither its earlier log nor the leader's log\n  line 4: leader \"a\" writes \
+            index 1 in term 1\n  at index 1 the server has the content \"y\" of term 1, and the \
+            leader \"x\" of term 1\n",
     ),
     // The server "1" has the vote of the server 1, and its own.
     (
@@ -72,8 +75,10 @@ pub const ROWS: [Row; 9] = [
 {"event":"appended","server":1,"term":1,"leader":1,"prev":0,"entries":[[1,"7"]]}"#,
         ],
         1,
-        "line 4: server 1 takes entries after index 0 from 1 in term 1: the server's log is a prefix of \
-            neither its earlier log nor the leader's log\n  line 3: leader 1 writes index 1 in term 1\n",
+        "line 4: server 1 takes entries after index 0 from 1 in term 1: the server's log is a \
+            prefix of neither its earlier log nor the leader's log\n  line 3: leader 1 writes \
+            index 1 in term 1\n  at index 1 the server has the content \"7\" of term 1, and the \
+            leader 7 of term 1\n",
     ),
     // The greatest numbers are names too, and the first text gets no number of theirs.
     (
@@ -94,12 +99,12 @@ pub const ROWS: [Row; 9] = [
 {"event":"campaigned","server":-3,"term":1}"#,
         ],
         2,
-        "line 2: `campaigned` needs the text or number `server`, and the number `term`\n",
+        "line 2: `server` of `campaigned` is -3, and has to be a text, or a number below 2^64\n",
     ),
     (
         &[r#"{"event":"started","voters":[["a",18446744073709551616]]}"#],
         2,
-        "line 1: it has to be `started`, with lists of texts or numbers `voters`, a number `first` or \
-            none, and `configs`, if it is there, as `appended` or `applied`\n",
+        "line 1: `voters` of `started` is [[\"a\",1.8446744073709552e+19]], and has to be a list \
+            of one config or two, each a list of servers that is not empty\n",
     ),
 ];

@@ -1,7 +1,7 @@
 //! Rows of runs, with the answers to them.
 
 use crate::first_caller::judged;
-use crate::{answers, applied, bounds, contradicted, fills, names};
+use crate::{answers, applied, bounds, contradicted, fills, malformed, names};
 use std::alloc::{AllocError, Global};
 use std::test::Fail;
 
@@ -9,12 +9,13 @@ use std::test::Fail;
 pub type Row = (&'static [&'static str], u8, &'static str);
 
 /// The tables of rows.
-const TABLES: [&[Row]; 6] = [
+const TABLES: [&[Row]; 7] = [
     &answers::ROWS,
     &applied::ROWS,
     &bounds::ROWS,
     &contradicted::ROWS,
     &fills::ROWS,
+    &malformed::ROWS,
     &names::ROWS,
 ];
 

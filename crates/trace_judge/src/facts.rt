@@ -25,6 +25,15 @@ pub struct Vote {
     pub place: Place,
 }
 
+/// A campaign of a candidate in a term.
+#[derive(Drop)]
+struct Campaign {
+    /// Where the line is.
+    place: Place,
+    /// The servers that have voted for the candidate, which has voted for itself.
+    voters: Vec<u64>,
+}
+
 /// An acknowledgement.
 #[derive(Clone, Copy)]
 pub struct Acknowledged {
@@ -56,7 +65,7 @@ pub struct Facts {
     /// The last vote or campaign of each server.
     votes: BTreeMap<u64, Vote>,
     /// The campaigns of candidates in terms.
-    campaigns: BTreeMap<(u64, u64), Place>,
+    campaigns: BTreeMap<(u64, u64), Campaign>,
     /// Acknowledgements of each server, the last one at the end: each is of fewer entries than the
     /// one before it. The others say nothing that a later one does not say too.
     acks: BTreeMap<u64, Vec<Acknowledged>>,
@@ -80,7 +89,9 @@ impl Facts {
     pub fn note(&mut self, place: Place, event: &Act, leader_len: usize) -> Result<(), AllocError> {
         match event {
             Event::Campaigned { server, term } => {
-                self.campaigns.insert((*term, *server), place)?;
+                let voters = Vec::new(self.alloc);
+                self.campaigns
+                    .insert((*term, *server), Campaign { place, voters })?;
                 self.note_vote(*server, *term, *server, place)
             }
             Event::Granted {
@@ -115,6 +126,9 @@ impl Facts {
             place,
         };
         self.votes.insert(server, vote)?;
+        if let Some(campaign) = self.campaigns.get_mut(&(term, candidate)) {
+            campaign.voters.push(server)?;
+        }
         Ok(())
     }
 
@@ -172,7 +186,27 @@ impl Facts {
 
     /// Returns the campaign of a candidate in a term.
     pub fn campaign(&self, term: u64, candidate: u64) -> Option<Place> {
-        self.campaigns.get(&(term, candidate)).copied()
+        Some(self.campaigns.get(&(term, candidate))?.place)
+    }
+
+    /// Returns the servers that have voted for a candidate in a term, also the candidate.
+    pub fn voters(&self, term: u64, candidate: u64) -> &[u64] {
+        match self.campaigns.get(&(term, candidate)) {
+            Some(campaign) => &campaign.voters,
+            None => &[],
+        }
+    }
+
+    /// Returns the servers that have acknowledged so many first entries to the leader of a term,
+    /// without those that have acknowledged more since, to another leader.
+    pub fn acked_by(&self, term: u64, leader: u64, len: usize) -> Result<Vec<u64>, AllocError> {
+        let mut servers = Vec::new(self.alloc);
+        for (server, acks) in &self.acks {
+            if have_acked(acks, term, leader, len) {
+                servers.push(*server)?;
+            }
+        }
+        Ok(servers)
     }
 
     /// Returns the last acknowledgement of a server that is of more than so many first entries. If
@@ -191,6 +225,16 @@ impl Facts {
         let place = written.places.get(number)?;
         Some((written.leader, *place))
     }
+}
+
+/// Whether one of these acknowledgements is of so many first entries of the leader of a term.
+fn have_acked(acks: &[Acknowledged], term: u64, leader: u64, len: usize) -> bool {
+    for ack in acks {
+        if ack.term == term && ack.leader == leader && len <= ack.len {
+            return true;
+        }
+    }
+    false
 }
 
 /// Notes an acknowledgement as the last one.

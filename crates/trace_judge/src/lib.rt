@@ -17,12 +17,14 @@ mod fill;
 mod followed;
 mod input;
 mod judge;
+mod missing;
 mod names;
 mod progress;
 mod reason;
 pub mod run;
 mod start;
 mod text;
+mod waiting;
 mod why;
 
 pub use input::Lines;

@@ -16,7 +16,7 @@ use crate::judge::{Judge, start};
 use crate::progress::Progress;
 use crate::start::say_one_start;
 use crate::text::{push_fault, push_safe};
-use crate::why::push_why;
+use crate::waiting::push_waiting;
 use safety_laws::laws::{applied_traces_are_executions, traces_are_executions};
 use std::alloc::{AllocError, Global};
 use std::io::{self, BufRead};
@@ -285,61 +285,6 @@ fn push_verdict<B>(
     judge.chart.push_to(answer)?;
     push_safe(alloc, answer, judge)?;
     Ok(0)
-}
-
-/// Writes the line that each list waits with, why, and which line it contradicts. The list that
-/// waits longest comes first. Returns the exit status.
-fn push_waiting<B>(
-    alloc: Global,
-    answer: &mut String,
-    lists: &[Lines<B>],
-    judge: &Judge,
-) -> Result<u8, AllocError>
-    ensures { IfOk result (λ status. 0 < status) }
-{
-    let longest = longest_waiting(lists);
-    for (i, list) in lists.iter().enumerate() {
-        if i == longest {
-            push_wait(alloc, answer, lists, judge, list)?;
-        }
-    }
-    for (i, list) in lists.iter().enumerate() {
-        if i != longest {
-            push_wait(alloc, answer, lists, judge, list)?;
-        }
-    }
-    Ok(1)
-}
-
-/// Returns the place of the list that waits longest, the first one of several.
-fn longest_waiting<B>(lists: &[Lines<B>]) -> usize {
-    let mut longest = 0;
-    let mut since = u64::MAX;
-    for (i, list) in lists.iter().enumerate() {
-        if let Some(wait) = list.wait
-            && wait.since < since
-        {
-            longest = i;
-            since = wait.since;
-        }
-    }
-    longest
-}
-
-/// Writes the line that a list waits with, why, and which line it contradicts, if it waits.
-fn push_wait<B>(
-    alloc: Global,
-    answer: &mut String,
-    lists: &[Lines<B>],
-    judge: &Judge,
-    list: &Lines<B>,
-) -> Result<(), AllocError> {
-    if let Some(wait) = list.wait {
-        list.push_place(answer)?;
-        push_fault(alloc, answer, list.line(), false, judge.first, wait.fault)?;
-        push_why(alloc, answer, lists, judge, list.line(), wait.fault)?;
-    }
-    Ok(())
 }
 
 /// Writes the chart, if the cluster has started, and why the list at a place is judged no further.

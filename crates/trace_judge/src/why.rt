@@ -1,62 +1,48 @@
 //! The lines that a refused line contradicts.
 
 use crate::facts::{Place, Vote};
-use crate::fault::Fault;
-use crate::field::{entries, event_name, id, len, number, value_of};
+use crate::field::{entries, event_name, id, len, number};
 use crate::input::Lines;
 use crate::judge::Judge;
 use safety_laws::rule::Rule;
 use serde_json::Value;
 use std::alloc::{AllocError, Global};
-use trace_checker::checker::Violation;
 use trace_checker::entry::Entry;
-
-/// Writes the lines that a refused line contradicts, as far as they are known.
-pub fn push_why<B>(
-    alloc: Global,
-    answer: &mut String,
-    lists: &[Lines<B>],
-    judge: &Judge,
-    line: &[u8],
-    fault: Fault,
-) -> Result<(), AllocError> {
-    let Fault::Refused(Violation::Rule(rule)) = fault else {
-        return Ok(());
-    };
-    let value = value_of(alloc, line)?.unwrap_or(Value::Null);
-    let refused = RefusedLine {
-        lists,
-        judge,
-        value: &value,
-    };
-    refused.push_contradicted(alloc, answer, rule)
-}
 
 /// A refused line, and what was judged before it.
 #[derive(Drop)]
-struct RefusedLine<'a, B> {
+pub struct RefusedLine<'a, B> {
     /// The lists of lines.
-    lists: &'a [Lines<B>],
+    pub lists: &'a [Lines<B>],
     /// The judge that has refused the line.
-    judge: &'a Judge,
+    pub judge: &'a Judge,
     /// The value of the line.
-    value: &'a Value,
+    pub value: &'a Value,
 }
 
 impl<'a, B> RefusedLine<'a, B> {
-    /// Writes the lines that the line contradicts, which breaks this rule.
-    fn push_contradicted(
+    /// Writes the lines that the line contradicts, which breaks this rule, as far as they are known.
+    pub fn push_contradicted(
         &self,
         alloc: Global,
         answer: &mut String,
         rule: Rule,
     ) -> Result<(), AllocError> {
         match (event_name(self.value).unwrap_or(""), rule) {
-            ("granted" | "campaigned", Rule::PassedTerm | Rule::CampaignedTwice) => {
-                self.push_vote(answer, self.term())
+            ("granted", _) if self.is_own_vote() => {
+                answer.push_str(
+                    "  leave this line out: `campaigned` is the vote of a server for itself\n",
+                )
             }
-            ("appended", Rule::PassedTerm) => {
-                self.push_vote(answer, self.term().saturating_add(1))
+            ("granted" | "campaigned", Rule::PassedTerm | Rule::CampaignedTwice) => {
+                self.push_vote(answer, self.server(), self.term())
+            }
+            ("appended", Rule::PassedTerm | Rule::NotElected) => {
+                self.push_vote(answer, self.server(), self.term().saturating_add(1))
+            }
+            ("granted", Rule::NoCampaign) => {
+                self.push_vote(answer, self.id("candidate"), self.term())?;
+                self.push_vote(answer, self.server(), self.term())
             }
             ("granted", Rule::CandidateBehind) => {
                 self.push_campaign(answer)?;
@@ -71,37 +57,47 @@ impl<'a, B> RefusedLine<'a, B> {
         }
     }
 
+    /// Returns the number of a field that is a name.
+    pub fn id(&self, name: &str) -> Option<u64> {
+        id(&self.judge.names, self.value, name)
+    }
+
     /// Returns the server of the line, if it has one.
-    fn server(&self) -> Option<u64> {
-        id(&self.judge.names, self.value, "server")
+    pub fn server(&self) -> Option<u64> {
+        self.id("server")
+    }
+
+    /// Whether the line says that a server votes for itself.
+    fn is_own_vote(&self) -> bool {
+        self.server() == self.id("candidate")
     }
 
     /// Returns the term of the line, 0 if it has none.
-    fn term(&self) -> u64 {
+    pub fn term(&self) -> u64 {
         number(self.value, "term").unwrap_or(0)
     }
 
     /// Returns the number of entries up to the index of a field, 0 if the line has none.
-    fn len(&self, name: &str) -> usize {
+    pub fn len(&self, name: &str) -> usize {
         len(self.value, name, self.judge.first).unwrap_or(0)
     }
 
     /// Returns the last of so many first entries of the leader of the line, if it has so many.
-    fn leader_entry(&self, len: usize) -> Option<Entry<u64, u64>> {
-        let leader = id(&self.judge.names, self.value, "leader")?;
+    pub fn leader_entry(&self, len: usize) -> Option<Entry<u64, u64>> {
+        let leader = self.id("leader")?;
         self.judge.checker.leader_entry(self.term(), leader, len)
     }
 
     /// Returns how many first entries the server and the leader of the line have in common.
-    fn common_len(&self) -> Option<usize> {
+    pub fn common_len(&self) -> Option<usize> {
         let server = self.server()?;
-        let leader = id(&self.judge.names, self.value, "leader")?;
+        let leader = self.id("leader")?;
         Some(self.judge.checker.common_len(server, self.term(), leader))
     }
 
     /// Returns how many of the entries that are sent, from the first one on, the leader of the line
     /// has after so many entries.
-    fn matching_len(&self, keep: usize, sent: &[Entry<u64, u64>]) -> usize {
+    pub fn matching_len(&self, keep: usize, sent: &[Entry<u64, u64>]) -> usize {
         for (i, entry) in sent.iter().enumerate() {
             let len = keep.saturating_add(i).saturating_add(1);
             match self.leader_entry(len) {
@@ -121,9 +117,14 @@ impl<'a, B> RefusedLine<'a, B> {
         Ok(())
     }
 
-    /// Writes the last vote or campaign of the server, if it is in this term or a later one.
-    fn push_vote(&self, answer: &mut String, term: u64) -> Result<(), AllocError> {
-        let Some(server) = self.server() else {
+    /// Writes the last vote or campaign of a server, if it is in this term or a later one.
+    fn push_vote(
+        &self,
+        answer: &mut String,
+        server: Option<u64>,
+        term: u64,
+    ) -> Result<(), AllocError> {
+        let Some(server) = server else {
             return Ok(());
         };
         match self.judge.facts.last_vote(server) {
@@ -149,7 +150,7 @@ impl<'a, B> RefusedLine<'a, B> {
 
     /// Writes the campaign of the candidate of the line.
     fn push_campaign(&self, answer: &mut String) -> Result<(), AllocError> {
-        let Some(candidate) = id(&self.judge.names, self.value, "candidate") else {
+        let Some(candidate) = self.id("candidate") else {
             return Ok(());
         };
         let term = self.term();
@@ -194,8 +195,8 @@ impl<'a, B> RefusedLine<'a, B> {
         Ok(())
     }
 
-    /// Writes the first entry of the leader from which the entries of the line differ. If they do
-    /// not, the entries before them differ.
+    /// Writes the first entry of the leader from which the entries of the line differ, and the one
+    /// of the line. If they do not differ, the entries before them do.
     fn push_foreign(&self, alloc: Global, answer: &mut String) -> Result<(), AllocError> {
         let Some(sent) = entries(alloc, &self.judge.names, self.value)? else {
             return Ok(());
@@ -203,7 +204,8 @@ impl<'a, B> RefusedLine<'a, B> {
         let keep = self.len("prev");
         let matching = self.matching_len(keep, &sent);
         if matching < sent.len() {
-            return self.push_entry(answer, keep.saturating_add(matching).saturating_add(1));
+            let len = keep.saturating_add(matching).saturating_add(1);
+            return self.push_differing(answer, len, sent.get(matching).copied());
         }
         self.push_missing(answer, keep)
     }
@@ -223,9 +225,37 @@ impl<'a, B> RefusedLine<'a, B> {
     /// Writes the first entry of the leader that the server does not have, if it is one of so many.
     fn push_missing(&self, answer: &mut String, len: usize) -> Result<(), AllocError> {
         match self.common_len() {
-            Some(common) if common < len => self.push_entry(answer, common.saturating_add(1)),
+            Some(common) if common < len => {
+                let next = common.saturating_add(1);
+                let server = self.server().unwrap_or(0);
+                self.push_differing(answer, next, self.judge.checker.server_entry(server, next))
+            }
             _ => Ok(()),
         }
+    }
+
+    /// Writes the last of so many first entries of the leader, and the entry that the server has in
+    /// its place, if it has one.
+    fn push_differing(
+        &self,
+        answer: &mut String,
+        len: usize,
+        own: Option<Entry<u64, u64>>,
+    ) -> Result<(), AllocError> {
+        self.push_entry(answer, len)?;
+        let Some(own) = own else {
+            return Ok(());
+        };
+        let Some(entry) = self.leader_entry(len) else {
+            return Ok(());
+        };
+        let index = self.judge.index(len);
+        write!(answer, "  at index {index} the server has the content ")?;
+        self.judge.names.push(answer, own.content)?;
+        write!(answer, " of term {}, and the leader ", own.term)?;
+        self.judge.names.push(answer, entry.content)?;
+        writeln!(answer, " of term {}", entry.term)?;
+        Ok(())
     }
 
     /// Writes the last of so many first entries of the leader.
