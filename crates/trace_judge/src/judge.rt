@@ -88,7 +88,7 @@ impl Judge {
     ) -> Result<(), Fault>
         ensures taken { OnOk result (Takes number_tests line.now self.old self.new) }
         ensures broken { IfErr result (λ fault. IsBroken fault →
-            Refuses number_tests self.old self.new) }
+            Refuses number_tests line.now self.old self.new) }
     {
         if line.is_empty() {
             return Ok(());

@@ -1,0 +1,58 @@
+-- What is filled in for the lines of a run, though no line says it.
+use Rattle.std.specs.Prelude.{◌≡◌, ◌+◌, ℕ, List, [], ◌∷◌, ◌++◌, Some, codes, drop, length, max, min, take}
+use Rattle.serde_json.specs.Data.{Data}
+use Rattle.serde_json.specs.Read.{read}
+use Rattle.safety_laws.specs.Log.{Entry}
+use Rattle.safety_laws.specs.Ranks.{IsAmong}
+use Rattle.safety_laws.specs.Trace.{TraceEvent, Appended, Acked, Restarted, Committed, Applied, candidate_log_in, common_prefix, leader_log_in, log_in}
+use Rattle.trace_checker.specs.Checker.{entry_at}
+use Rattle.trace_judge.specs.Fields.{number_in}
+use Rattle.trace_judge.specs.Line.{Says}
+use Rattle.trace_judge.specs.Names.{Numbering}
+use Rattle.trace_judge.specs.Numbers.{log_tests}
+
+-- a trace has events more, and this holds of each of them after the events before it. The latest is first
+abbrev pub HoldAfter : (List (TraceEvent ℕ ℕ ℕ) → TraceEvent ℕ ℕ ℕ → Type 0) → List (TraceEvent ℕ ℕ ℕ)
+    → List (TraceEvent ℕ ℕ ℕ) → Type 0
+HoldAfter P before [] = Unit {0}
+HoldAfter P before (e ∷ more) = P (more ++ before) e × HoldAfter P before more
+
+abbrev pub AddsEach : (List (TraceEvent ℕ ℕ ℕ) → TraceEvent ℕ ℕ ℕ → Type 0) → List (TraceEvent ℕ ℕ ℕ)
+    → List (TraceEvent ℕ ℕ ℕ) → Type 0
+AddsEach P before after = (more : List (TraceEvent ℕ ℕ ℕ)) × HoldAfter P before more × (after ≡ more ++ before)
+
+-- a server keeps as many entries as its log and the log of the leader of a term have in common, and takes
+-- the entries of the leader that come then
+abbrev pub TakesMissing : List (TraceEvent ℕ ℕ ℕ) → ℕ → ℕ → ℕ → ℕ → List (Entry ℕ ℕ) → Type 0
+TakesMissing es s t c n sent =
+    let log = leader_log_in log_tests es t c in
+    let common = common_prefix log_tests (log_in log_tests es s) log in
+    (n ≡ min (length common) (n + length sent)) × (sent ≡ drop n (take (n + length sent) log))
+
+-- the last of so many entries is of the term that a line says
+abbrev pub EndsInTerm : Data → ℕ → List (Entry ℕ ℕ) → Type 0
+EndsInTerm d n log =
+    (e : Entry ℕ ℕ) × (entry_at n log ≡ Some e) × (number_in (codes "last_term") d ≡ Some e.term)
+
+-- an event is filled in for a line after other events. A server that restarts has taken the entries that it
+-- has read from its disk from a leader. A server acknowledges the entries that it applies. A leader commits
+-- the entries that a server applies, and at least the first one of its own
+abbrev pub IsFilledInFor : Numbering → ℕ → Data → List (TraceEvent ℕ ℕ ℕ) → TraceEvent ℕ ℕ ℕ → Type 0
+IsFilledInFor number_of first d es (Appended s t c n sent) =
+    let len = n + length sent in
+    Says number_of first d (Restarted s len) × TakesMissing es s t c n sent
+    × EndsInTerm d len (leader_log_in log_tests es t c)
+IsFilledInFor number_of first d es (Acked s t c n) = Says number_of first d (Applied s t c n)
+IsFilledInFor number_of first d es (Committed c t n m) =
+    (s : ℕ) × (len : ℕ) × Says number_of first d (Applied s t c len)
+    × (n ≡ max len (length (candidate_log_in log_tests es t c) + 1))
+IsFilledInFor number_of first d es e = ⊥
+
+-- an event is filled in for one of these lines
+abbrev pub IsFilledIn : Numbering → ℕ → List (List ℕ) → List (TraceEvent ℕ ℕ ℕ) → TraceEvent ℕ ℕ ℕ → Type 0
+IsFilledIn number_of first lines es e =
+    (line : List ℕ) × (d : Data) × IsAmong line lines × (read line ≡ Some d) × IsFilledInFor number_of first d es e
+
+-- a trace has events more, each of which is filled in for one of these lines
+abbrev pub FillsIn : Numbering → ℕ → List (List ℕ) → List (TraceEvent ℕ ℕ ℕ) → List (TraceEvent ℕ ℕ ℕ) → Type 0
+FillsIn number_of first lines before after = AddsEach (IsFilledIn number_of first lines) before after
