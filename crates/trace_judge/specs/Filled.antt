@@ -1,13 +1,11 @@
 -- What is filled in for the lines of a run, though no line says it.
-use Rattle.std.specs.Prelude.{◌≡◌, ◌+◌, ℕ, List, [], ◌∷◌, ◌++◌, Some, codes, drop, length, max, min, take}
+use Rattle.std.specs.Prelude.{◌≡◌, ◌+◌, ℕ, List, [], ◌∷◌, ◌++◌, Some, length, max}
 use Rattle.serde_json.specs.Data.{Data}
 use Rattle.serde_json.specs.Read.{read}
-use Rattle.safety_laws.specs.Log.{Entry}
 use Rattle.safety_laws.specs.Ranks.{IsAmong}
-use Rattle.safety_laws.specs.Trace.{TraceEvent, Appended, Acked, Restarted, Committed, Applied, candidate_log_in, common_prefix, leader_log_in, log_in}
-use Rattle.trace_checker.specs.Checker.{entry_at}
-use Rattle.trace_judge.specs.Fields.{number_in}
+use Rattle.safety_laws.specs.Trace.{TraceEvent, Appended, Acked, Restarted, Committed, Applied, candidate_log_in, leader_log_in}
 use Rattle.trace_judge.specs.Line.{Says}
+use Rattle.trace_judge.specs.Logs.{EndsInTerm, TakesMissing}
 use Rattle.trace_judge.specs.Names.{Numbering}
 use Rattle.trace_judge.specs.Numbers.{log_tests}
 
@@ -20,19 +18,6 @@ HoldAfter P before (e ∷ more) = P (more ++ before) e × HoldAfter P before mor
 abbrev pub AddsEach : (List (TraceEvent ℕ ℕ ℕ) → TraceEvent ℕ ℕ ℕ → Type 0) → List (TraceEvent ℕ ℕ ℕ)
     → List (TraceEvent ℕ ℕ ℕ) → Type 0
 AddsEach P before after = (more : List (TraceEvent ℕ ℕ ℕ)) × HoldAfter P before more × (after ≡ more ++ before)
-
--- a server keeps as many entries as its log and the log of the leader of a term have in common, and takes
--- the entries of the leader that come then
-abbrev pub TakesMissing : List (TraceEvent ℕ ℕ ℕ) → ℕ → ℕ → ℕ → ℕ → List (Entry ℕ ℕ) → Type 0
-TakesMissing es s t c n sent =
-    let log = leader_log_in log_tests es t c in
-    let common = common_prefix log_tests (log_in log_tests es s) log in
-    (n ≡ min (length common) (n + length sent)) × (sent ≡ drop n (take (n + length sent) log))
-
--- the last of so many entries is of the term that a line says
-abbrev pub EndsInTerm : Data → ℕ → List (Entry ℕ ℕ) → Type 0
-EndsInTerm d n log =
-    (e : Entry ℕ ℕ) × (entry_at n log ≡ Some e) × (number_in (codes "last_term") d ≡ Some e.term)
 
 -- an event is filled in for a line after other events. A server that restarts has taken the entries that it
 -- has read from its disk from a leader. A server acknowledges the entries that it applies. A leader commits

@@ -12,6 +12,7 @@ use Rattle.trace_checker.specs.declared.memberships.Memberships.{Memberships}
 use Rattle.trace_judge.specs.Filled.{FillsIn}
 use Rattle.trace_judge.specs.Fields.{HasConfigs, IsCounting, IsFirst, IsNamed}
 use Rattle.trace_judge.specs.Line.{IsVote, Says}
+use Rattle.trace_judge.specs.Logs.{FitsLogs}
 use Rattle.trace_judge.specs.Names.{AreApart, Numbering}
 
 -- a trace has one event more, or the event is a vote that the trace has already
@@ -34,15 +35,15 @@ abbrev pub AddsMembership : Option Held → List Held → List Held → Type 0
 AddsMembership None before after = after ≡ before
 AddsMembership (Some m) before after = (after ≡ before ++ m ∷ []) ⊎ (IsAmong m before × (after ≡ before))
 
--- a trace has the event more that a line says, and there is the membership more that its entry holds. An
--- empty line says nothing
+-- a trace has the event more that a line says, which fits the logs so far, and there is the membership
+-- more that its entry holds. An empty line says nothing
 abbrev pub AddsLine : Numbering → ℕ → List ℕ → List Held → List (TraceEvent ℕ ℕ ℕ) → List Held
     → List (TraceEvent ℕ ℕ ℕ) → Type 0
 AddsLine number_of first line known before held after =
     ((line ≡ []) × (held ≡ known) × (after ≡ before))
     ⊎ ((d : Data) × (e : TraceEvent ℕ ℕ ℕ) × (m : Option Held) × (read line ≡ Some d)
-    × Says number_of first d e × SaysMembership number_of d e m × AddsMembership m known held
-    × Adds e before after)
+    × Says number_of first d e × FitsLogs first before d e × SaysMembership number_of d e m
+    × AddsMembership m known held × Adds e before after)
 
 -- a trace is what these lines say, in their order, but for votes that it has already, and for events that
 -- are filled in for a line that comes then or later. The memberships are those that lines say. The latest

@@ -208,7 +208,7 @@ module _ (old new : Numbering) (more : Extends old new) where
       → AddsLine new first line known before held after
   adds_line first line known before held after (inl h) = inl h
   adds_line first line known before held after (inr h) =
-      inr (h.0, h.1, h.2, h.3, says first h.0 h.1 h.4, says_membership h.0 h.1 h.2 h.5, h.6, h.7)
+      inr (h.0, h.1, h.2, h.3, says first h.0 h.1 h.4, h.5, says_membership h.0 h.1 h.2 h.6, h.7, h.8)
 
   -- an event is filled in for a line also with more numbers
   pub filled_for : (first : ℕ) (d : Data) (es : List (TraceEvent ℕ ℕ ℕ)) (e : TraceEvent ℕ ℕ ℕ)

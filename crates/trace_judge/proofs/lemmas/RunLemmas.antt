@@ -12,7 +12,7 @@ use Rattle.trace_checker.specs.declared.memberships.Memberships.{Memberships}
 use Rattle.trace_judge.specs.Fields.{HasConfigs}
 use Rattle.trace_judge.specs.Filled.{AddsEach, FillsIn, IsFilledIn, IsFilledInFor}
 use Rattle.trace_judge.specs.Inner.Table.{Extends, IsTable, Learns, numbering}
-use Rattle.trace_judge.specs.Inner.Taken.{Fills, FillsFor, GoesOn, HasTaken, IsStarted, KeepsMore, KeepsTrace, Refuses, Stays, Takes, TakesEvent, TakesSaid, held_by, tests_for}
+use Rattle.trace_judge.specs.Inner.Taken.{Fills, FillsFor, Fits, GoesOn, HasTaken, IsStarted, KeepsMore, KeepsTrace, Refuses, Stays, Takes, TakesEvent, TakesSaid, held_by, tests_for}
 use Rattle.trace_judge.specs.Inner.Votes.{AreVotesIn}
 use Rattle.trace_judge.specs.Line.{Says}
 use Rattle.trace_judge.specs.Names.{Numbering}
@@ -222,14 +222,15 @@ module _ (tests : ConfigsCount → Memberships ℕ ℕ → Tests ℕ ℕ ℕ (Op
 
   takes_event : (line : List ℕ) (old mid new : Judge) (d : Data) (e : TraceEvent ℕ ℕ ℕ) (m : Option Held)
       → Fills tests d old mid → read line ≡ Some d → Says (numbering mid.names) mid.first d e
-      → SaysMembership (numbering mid.names) d e m → TakesEvent tests e m mid new → Takes tests line old new
-  takes_event line old mid new d e m fills reads says_e says_m takes = (
+      → Fits tests d e mid → SaysMembership (numbering mid.names) d e m → TakesEvent tests e m mid new
+      → Takes tests line old new
+  takes_event line old mid new d e m fills reads says_e fits says_m takes = (
     goes_on old mid new fills.0 takes.0,
     λ later taken has.
         let before = has_filled line d old mid (line ∷ later) taken reads (inl refl) fills has in
         let next = takes.1 before.trace before.keeps in
         let added : AddsLine (numbering mid.names) mid.first line (held_by tests mid) before.trace (held_by tests new) next.0 =
-        inr (d, e, m, reads, says_e, says_m, next.2, next.1) in
+        inr (d, e, m, reads, says_e, fits before.trace before.keeps, says_m, next.2, next.1) in
         record {
           trace = next.0;
           is_trace = trace_on mid new later (line ∷ taken) (held_by tests new) next.0 takes.0 (
@@ -246,7 +247,7 @@ module _ (tests : ConfigsCount → Memberships ℕ ℕ → Tests ℕ ℕ ℕ (Op
   pub takes_line : (line : List ℕ) (old mid new : Judge) (d : Data) → Fills tests d old mid → read line ≡ Some d
       → TakesSaid tests d mid new → Takes tests line old new
   takes_line line old mid new d fills reads said =
-      takes_event line old mid new d said.0 said.1.0 fills reads said.1.1 said.1.2 said.1.3
+      takes_event line old mid new d said.0 said.1.0 fills reads said.1.1 said.1.2 said.1.3 said.1.4
 
   -- ---- events that the checker is asked for
 

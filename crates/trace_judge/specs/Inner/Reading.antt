@@ -4,7 +4,7 @@ use Rattle.serde_json.specs.Data.{Data}
 use Rattle.safety_laws.specs.Log.{Entry}
 use Rattle.safety_laws.specs.Trace.{TraceEvent, Appended}
 use Rattle.trace_judge.specs.Fields.{IsId, IsLen, IsNamed, number_in}
-use Rattle.trace_judge.specs.Filled.{TakesMissing}
+use Rattle.trace_judge.specs.Logs.{TakesMissing}
 use Rattle.trace_judge.specs.Names.{Numbering}
 
 -- a server takes entries of the leader of a term, and has so many then: those that it keeps, and those

@@ -12,6 +12,7 @@ use Rattle.trace_judge.specs.Filled.{AddsEach, IsFilledInFor}
 use Rattle.trace_judge.specs.Inner.Table.{Extends, IsTable, numbering}
 use Rattle.trace_judge.specs.Inner.Votes.{AreVotesIn}
 use Rattle.trace_judge.specs.Line.{Says}
+use Rattle.trace_judge.specs.Logs.{FitsLogs}
 use Rattle.trace_judge.specs.Names.{Numbering}
 use Rattle.trace_judge.specs.Run.{Adds, AddsMembership, Held, IsTraceOf, SaysMembership, SaysStart}
 use Rattle.trace_judge.specs.declared.fault.Fault.TheVariants.{Malformed, Refused, Skips}
@@ -24,11 +25,12 @@ SaysStartOf line judge =
     SaysStart (numbering judge.names) line (configs_of judge.checker).initial.items judge.first
     (counting_of judge.checker)
 
--- a line that says an event says another one too, whose entry holds no membership
+-- a line that says an event says another one too, which fits all logs, and whose entry holds no membership
 abbrev pub SaysToo : Data → TraceEvent ℕ ℕ ℕ → TraceEvent ℕ ℕ ℕ → Type 0
 SaysToo d e other =
     (number_of : Numbering) (first : ℕ) → Says number_of first d e
     → Says number_of first d other × SaysMembership number_of d other None
+    × ((es : List (TraceEvent ℕ ℕ ℕ)) → FitsLogs first es d other)
 
 -- a line is broken: it is no event, it has not the next index of its leader, or it breaks a rule
 abbrev pub IsBroken : Fault → Type 0
@@ -135,8 +137,12 @@ module _ (tests : ConfigsCount → Memberships ℕ ℕ → Tests ℕ ℕ ℕ (Op
       (number_of : Numbering) (d : Data) → SaysMembership number_of d e (Some m)
       → (n : Held) × SaysMembership number_of d e (Some n) × TakesEvent e (Some n) old new
 
+  -- an event of a line fits the logs that a judge knows
+  abbrev pub Fits : Data → TraceEvent ℕ ℕ ℕ → Judge → Type 0
+  Fits d e judge = (es : List (TraceEvent ℕ ℕ ℕ)) → KeepsTrace judge es → FitsLogs judge.first es d e
+
   -- a judge takes the event that a line says
   abbrev pub TakesSaid : Data → Judge → Judge → Type 0
   TakesSaid d old new =
-      (e : TraceEvent ℕ ℕ ℕ) × ((m : Option Held) × Says (numbering old.names) old.first d e
+      (e : TraceEvent ℕ ℕ ℕ) × ((m : Option Held) × Says (numbering old.names) old.first d e × Fits d e old
       × SaysMembership (numbering old.names) d e m × TakesEvent e m old new)

@@ -9,5 +9,5 @@ returns c =
     let old = c.args.self.now in
     on_ok_weaker c.restore.result (λ fills.
     fills (numbering old.names) old.first (view c.args.value.now)
-    (c.if-not-is_named.ensures refl, c.in-Some.ensures, c.in-Some-len.ensures)
+    (c.if-not-is_named.ensures.yes refl, c.in-Some.ensures, c.in-Some-len.ensures)
     (sym c.number.ensures ∙ c.in-Some-number.is)) c.restore.ensures

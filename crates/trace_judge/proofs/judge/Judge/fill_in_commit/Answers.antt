@@ -9,4 +9,4 @@ returns c =
     let old = c.args.self.now in
     on_ok_weaker c.commit_applied.result (λ fills.
     fills (numbering old.names) old.first (view c.args.value.now)
-    (c.if-not-is_named.ensures refl, c.in-Some.ensures, c.in-Some-len.ensures)) c.commit_applied.ensures
+    (c.if-not-is_named.ensures.yes refl, c.in-Some.ensures, c.in-Some-len.ensures)) c.commit_applied.ensures
