@@ -46,8 +46,9 @@ AddsLine number_of first line known before held after =
     × AddsMembership m known held × Adds e before after)
 
 -- a trace is what these lines say, in their order, but for votes that it has already, and for events that
--- are filled in for a line that comes then or later. The memberships are those that lines say. The latest
--- line and the latest event are first. `later` are the lines that come after these
+-- are filled in: directly before a line for which a server restarts, or anywhere before a line for which it
+-- applies entries. The memberships are those that lines say. The latest line and the latest event are
+-- first. `later` are the lines that come after these
 abbrev pub IsTraceOf : Numbering → ℕ → List (List ℕ) → List (List ℕ) → List Held → List (TraceEvent ℕ ℕ ℕ) → Type 0
 IsTraceOf number_of first later [] held es = (held ≡ []) × FillsIn number_of first later [] es
 IsTraceOf number_of first later (line ∷ earlier) held es =

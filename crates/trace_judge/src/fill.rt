@@ -1,15 +1,15 @@
 //! Events that no line says, but that the checker needs.
-ghost use Rattle.std.specs.Prelude.{IfOk, IfSome, OnOk};
+ghost use Rattle.std.specs.Prelude.{IfOk, IsFalse, IsTrue, OnOk};
 ghost use Rattle.serde_json.specs.View.{view};
 ghost use Rattle.safety_laws.specs.Trace.{Committed};
 ghost use Rattle.trace_checker.specs.Checker.{event_of as trace_event};
 ghost use Rattle.trace_judge.specs.Inner.Table.{numbering};
-ghost use Rattle.trace_judge.specs.Inner.Taken.{FillsApplied, FillsFor, FillsInto, FillsRestarted};
+ghost use Rattle.trace_judge.specs.Inner.Taken.{FillsApplied, FillsFor, FillsInto, FillsRestarted, RestoresFor, RestoresInto, Stays};
 ghost use Rattle.trace_judge.specs.Numbers.{number_tests};
 
 use crate::counted::counted_before;
 use crate::event::{Act, counted_at, taken_from};
-use crate::field::{event_name, id, is_named, len, number};
+use crate::field::{id, is_named, len, number};
 use crate::followed::{Followed, KEPT};
 use crate::judge::Judge;
 use serde_json::Value;
@@ -22,31 +22,19 @@ use trace_checker::event::Event;
 const TRIED: usize = 64;
 
 impl Judge {
-    /// Fills in the events that a line needs, as far as they are allowed, if any may be filled in.
+    /// Fills in that a leader commits what a server has applied, if a line says so and events may be
+    /// filled in. It is one of the last leaders that the server has followed.
     ///
     /// # Errors
     ///
     /// Out of memory.
-    pub fn fill_in(&mut self, alloc: Global, fills: bool, value: &Value) -> Result<(), AllocError>
+    pub fn fill_in_commit(&mut self, fills: bool, value: &Value) -> Result<(), AllocError>
         ensures { OnOk result (FillsFor number_tests (numbering self.old.names) self.old.first
             (view value.now) self.old self.new) }
     {
         if !fills {
             return Ok(());
         }
-        match event_name(value).unwrap_or("") {
-            "applied" => self.fill_in_commit(value),
-            "restarted" => self.fill_in_append(alloc, value),
-            _ => Ok(()),
-        }
-    }
-
-    /// Fills in that a leader commits what a server has applied. It is one of the last leaders that
-    /// the server has followed.
-    fn fill_in_commit(&mut self, value: &Value) -> Result<(), AllocError>
-        ensures { OnOk result (FillsFor number_tests (numbering self.old.names) self.old.first
-            (view value.now) self.old self.new) }
-    {
         if !is_named(value, "applied") {
             return Ok(());
         }
@@ -197,53 +185,73 @@ impl Judge {
         self.add(&event)
     }
 
-    /// Fills in that a server has taken the entries that it has read from its disk, if its log does
-    /// not end so. They are of the leader of `last_term`, or of the first later one that allows it.
-    /// So the server is in no later term than it has to be.
-    fn fill_in_append(&mut self, alloc: Global, value: &Value) -> Result<(), AllocError>
-        ensures { OnOk result (FillsFor number_tests (numbering self.old.names) self.old.first
-            (view value.now) self.old self.new) }
+    /// Fills in that a server has taken the entries that it has read from its disk, if a line says
+    /// that it restarts, its log does not end so, and events may be filled in. The entries are of the
+    /// leader of `last_term`, or of the first later one that allows it. So the server is in no later
+    /// term than it has to be. Returns whether the server has taken entries.
+    ///
+    /// # Errors
+    ///
+    /// Out of memory.
+    pub fn fill_in_append(
+        &mut self,
+        alloc: Global,
+        fills: bool,
+        value: &Value,
+    ) -> Result<bool, AllocError>
+        ensures restored { IfOk result (λ restored. IsTrue restored →
+            RestoresFor number_tests (numbering self.old.names) self.old.first (view value.now)
+            self.old self.new) }
+        ensures stays { IfOk result (λ restored. IsFalse restored →
+            Stays number_tests self.old self.new) }
     {
+        if !fills {
+            return Ok(false);
+        }
         if !is_named(value, "restarted") {
-            return Ok(());
+            return Ok(false);
         }
         let Some(server) = id(&self.names, value, "server") else {
-            return Ok(());
+            return Ok(false);
         };
         let Some(len) = len(value, "index", self.first) else {
-            return Ok(());
+            return Ok(false);
         };
         let Some(last_term) = number(value, "last_term") else {
-            return Ok(());
+            return Ok(false);
         };
         self.restore(alloc, server, len, last_term)
     }
 
     /// Fills in that a server has taken so many first entries, of which the last one is of a term,
-    /// from the first leader of which that is allowed, if its log does not end so.
+    /// from the first leader of which that is allowed, if its log does not end so. Returns whether
+    /// there is one.
     fn restore(
         &mut self,
         alloc: Global,
         server: u64,
         len: usize,
         last_term: u64,
-    ) -> Result<(), AllocError>
-        ensures { OnOk result (FillsRestarted number_tests server len last_term self.old self.new) }
+    ) -> Result<bool, AllocError>
+        ensures restored { IfOk result (λ restored. IsTrue restored →
+            FillsRestarted number_tests server len last_term self.old self.new) }
+        ensures stays { IfOk result (λ restored. IsFalse restored →
+            Stays number_tests self.old self.new) }
     {
         if len == 0 || self.has_entry(server, len, last_term) {
-            return Ok(());
+            return Ok(false);
         }
         let mut last = None;
         for _ in 0..TRIED {
             let Some((term, leader)) = self.next_leader(last_term, last) else {
-                return Ok(());
+                return Ok(false);
             };
             if self.append_from(alloc, server, term, leader, len, last_term)? {
-                return Ok(());
+                return Ok(true);
             }
             last = Some((term, leader));
         }
-        Ok(())
+        Ok(false)
     }
 
     /// Returns the first leader or candidate from a term on, and its term. It comes after another
@@ -280,7 +288,10 @@ impl Judge {
         len: usize,
         last_term: u64,
     ) -> Result<bool, AllocError>
-        ensures { OnOk result (FillsRestarted number_tests server len last_term self.old self.new) }
+        ensures restored { IfOk result (λ restored. IsTrue restored →
+            FillsRestarted number_tests server len last_term self.old self.new) }
+        ensures stays { IfOk result (λ restored. IsFalse restored →
+            Stays number_tests self.old self.new) }
     {
         match self.checker.leader_entry(term, leader, len) {
             Some(entry) if entry.term == last_term => {}
@@ -294,7 +305,11 @@ impl Judge {
 
     /// Records an event that no line says, if it is allowed. Returns whether it is.
     fn add(&mut self, event: &Act) -> Result<bool, AllocError>
-        ensures { OnOk result (FillsInto number_tests (trace_event event.now) self.old self.new) }
+        ensures fills { OnOk result
+            (FillsInto number_tests (trace_event event.now) self.old self.new) }
+        ensures restores { OnOk result
+            (RestoresInto number_tests (trace_event event.now) self.old self.new) }
+        ensures stays { IfOk result (λ added. IsFalse added → Stays number_tests self.old self.new) }
     {
         match self.checker.record(event) {
             Ok(()) => {

@@ -100,8 +100,24 @@ impl Judge {
         };
         self.names.learn(&value)?;
         self.chart.begin(place.line, self.counts.events, &value)?;
-        self.fill_in(alloc, fills, &value)?;
+        if self.fill_in_append(alloc, fills, &value)? {
+            return self.take_restored(alloc, place, &value);
+        }
+        self.fill_in_commit(fills, &value)?;
         self.take_value(alloc, place, &value)
+    }
+
+    /// Takes the event that a server restarts, which the value of a line says, after the server has
+    /// taken the entries that it has read from its disk. Its log ends as the line says, so the line
+    /// breaks no rule: it is not taken only if there is no memory.
+    fn take_restored(&mut self, alloc: Global, place: Place, value: &Value) -> Result<(), Fault>
+        ensures taken { OnOk result (TakesSaid number_tests (view value.now) self.old self.new) }
+        ensures broken { IfErr result (λ fault. IsBroken fault → ⊥) }
+    {
+        match self.take_value(alloc, place, value) {
+            Ok(()) => Ok(()),
+            Err(_) => Err(Fault::from(Violation::OutOfMemory)),
+        }
     }
 
     /// Takes the event that the value of a line says.

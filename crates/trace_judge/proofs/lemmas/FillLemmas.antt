@@ -7,7 +7,7 @@ use Rattle.serde_json.specs.Read.{read}
 use Rattle.safety_laws.specs.Ranks.{IsAmong}
 use Rattle.safety_laws.specs.Trace.{TraceEvent, Campaigned, Granted, Appended, Acked, Restarted, Wrote, Committed, Applied, leader_log_in}
 use Rattle.trace_judge.specs.Fields.{IsNamed}
-use Rattle.trace_judge.specs.Filled.{AddsEach, HoldAfter, IsFilledIn, IsFilledInFor}
+use Rattle.trace_judge.specs.Filled.{AddsEach, HoldAfter, IsFilledIn, IsFilledInFor, IsRestoredFor}
 use Rattle.trace_judge.specs.Inner.Reading.{IsMissing, TakesUpTo}
 use Rattle.trace_judge.specs.Line.{Says}
 use Rattle.trace_judge.specs.Logs.{EndsInTerm, HasLeaderEntries}
@@ -63,12 +63,23 @@ not_started : (number_of : Numbering) (first : ℕ) (d : Data) (es : List (Trace
     → IsNamed (codes "started") d → IsFilledInFor number_of first d es e → ⊥
 not_started number_of first d es (Campaigned s t) named h = h
 not_started number_of first d es (Granted s t c) named h = h
-not_started number_of first d es (Appended s t c n sent) named h = let other = h.0.0 in cc
+not_started number_of first d es (Appended s t c n sent) named h = h
 not_started number_of first d es (Acked s t c n) named h = not_applied d named h.0
 not_started number_of first d es (Restarted s n) named h = h
 not_started number_of first d es (Wrote c t e) named h = h
 not_started number_of first d es (Committed c t n m) named h = not_applied d named h.2.0
 not_started number_of first d es (Applied s t c n) named h = h
+
+not_restored : (number_of : Numbering) (first : ℕ) (d : Data) (es : List (TraceEvent ℕ ℕ ℕ)) (e : TraceEvent ℕ ℕ ℕ)
+    → IsNamed (codes "started") d → IsRestoredFor number_of first d es e → ⊥
+not_restored number_of first d es (Campaigned s t) named h = h
+not_restored number_of first d es (Granted s t c) named h = h
+not_restored number_of first d es (Appended s t c n sent) named h = let other = h.0.0 in cc
+not_restored number_of first d es (Acked s t c n) named h = h
+not_restored number_of first d es (Restarted s n) named h = h
+not_restored number_of first d es (Wrote c t e) named h = h
+not_restored number_of first d es (Committed c t n m) named h = h
+not_restored number_of first d es (Applied s t c n) named h = h
 
 among_without : (pre later : List (List ℕ)) (line x : List ℕ) → IsAmong x (pre ++ line ∷ later)
     → (x ≡ line) ⊎ IsAmong x (pre ++ later)
@@ -83,17 +94,24 @@ among_without (y ∷ pre) later line x (inr is) = by (among_without pre later li
 
 module _ (number_of : Numbering) (first : ℕ) (line : List ℕ) (d : Data) (reads : read line ≡ Some d)
     (named : IsNamed (codes "started") d) (later : List (List ℕ)) where
+  says_start : (x : List ℕ) (other : Data) → x ≡ line → read x ≡ Some other → IsNamed (codes "started") other
+  says_start x other same is =
+      let it : read x ≡ Some d = subst (λ (l : List ℕ). read l ≡ Some d) (sym same) reads in
+      let says : Some other ≡ Some d = sym is ∙ it in
+      let one : d ≡ other = cc in subst (λ (v : Data). IsNamed (codes "started") v) one named
+
   filled_without : (pre : List (List ℕ)) (es : List (TraceEvent ℕ ℕ ℕ)) (e : TraceEvent ℕ ℕ ℕ)
       → IsFilledIn number_of first (pre ++ line ∷ later) es e → IsFilledIn number_of first (pre ++ later) es e
-  filled_without pre es e h = by (among_without pre later line h.0 h.2)
+  filled_without pre es e (inl h) = by (among_without pre later line h.0 h.2)
     where
       by : ((h.0 ≡ line) ⊎ IsAmong h.0 (pre ++ later)) → IsFilledIn number_of first (pre ++ later) es e
-      by (inl same) =
-          let it : read h.0 ≡ Some d = subst (λ (l : List ℕ). read l ≡ Some d) (sym same) reads in
-          let says : Some h.1 ≡ Some d = sym h.3 ∙ it in
-          let one : d ≡ h.1 = cc in
-          absurd (not_started number_of first h.1 es e (subst (λ (x : Data). IsNamed (codes "started") x) one named) h.4)
-      by (inr among) = (h.0, h.1, among, h.3, h.4)
+      by (inl same) = absurd (not_started number_of first h.1 es e (says_start h.0 h.1 same h.3) h.4)
+      by (inr among) = inl (h.0, h.1, among, h.3, h.4)
+  filled_without [] es e (inr h) =
+      let same : h.0 ≡ line = cc in absurd (not_restored number_of first h.2 es e (says_start h.0 h.2 same h.4) h.5)
+  filled_without (y ∷ pre) es e (inr h) =
+      let same : y ≡ h.0 = cc in
+      inr (h.0, pre ++ later, h.2, ap (λ (l : List ℕ). l ∷ pre ++ later) same, h.4, h.5)
 
   -- a trace stays one of lines before others if one of these says the start
   pub trace_without : (pre taken : List (List ℕ)) (held : List Held) (es : List (TraceEvent ℕ ℕ ℕ))
@@ -125,12 +143,12 @@ some_if false x y is = cc
 -- a server takes what it has read from its disk from a leader
 pub restores : (number_of : Numbering) (first : ℕ) (d : Data) (es : List (TraceEvent ℕ ℕ ℕ)) (e : TraceEvent ℕ ℕ ℕ)
     (s t c len : ℕ) → TakesUpTo s t c len e → IsMissing es e → Says number_of first d (Restarted s len)
-    → EndsInTerm d len (leader_log_in log_tests es t c) → IsFilledInFor number_of first d es e
+    → EndsInTerm d len (leader_log_in log_tests es t c) → IsRestoredFor number_of first d es e
 restores number_of first d es e s t c len up missing says ends =
     let n = up.0 in
     let sent = up.1.0 in
     let sum = sym up.1.2 in
-    subst (λ (x : TraceEvent ℕ ℕ ℕ). IsFilledInFor number_of first d es x) (sym up.1.1) (
+    subst (λ (x : TraceEvent ℕ ℕ ℕ). IsRestoredFor number_of first d es x) (sym up.1.1) (
       subst (λ (k : ℕ). Says number_of first d (Restarted s k)) sum says,
       subst (λ (x : TraceEvent ℕ ℕ ℕ). IsMissing es x) up.1.1 missing,
       subst (λ (k : ℕ). EndsInTerm d k (leader_log_in log_tests es t c)) sum ends,

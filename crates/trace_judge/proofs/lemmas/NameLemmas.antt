@@ -15,7 +15,7 @@ use Rattle.std.proofs.lemmas.Slice.Eq.{bytes_eq-Decides}
 use Rattle.serde_json.specs.Data.{Data, Items, no_items, item}
 use Rattle.safety_laws.specs.Log.{Entry}
 use Rattle.safety_laws.specs.Trace.{TraceEvent, Campaigned, Granted, Appended, Acked, Restarted, Wrote, Committed, Applied}
-use Rattle.trace_judge.specs.Filled.{FillsIn, IsFilledIn, IsFilledInFor}
+use Rattle.trace_judge.specs.Filled.{FillsIn, IsFilledIn, IsFilledInFor, IsRestoredFor}
 use Rattle.trace_judge.specs.Fields.{HasConfigs, IsConfig, IsEntry, IsId, SayEach}
 use Rattle.trace_judge.specs.Inner.Table.{Extends, IsTable, Learns, numbering}
 use Rattle.trace_judge.specs.Line.{Says, SaysEntries}
@@ -215,16 +215,28 @@ module _ (old new : Numbering) (more : Extends old new) where
       → IsFilledInFor old first d es e → IsFilledInFor new first d es e
   filled_for first d es (Campaigned s t) h = h
   filled_for first d es (Granted s t c) h = h
-  filled_for first d es (Appended s t c n sent) h = (says first d (Restarted s (n + length sent)) h.0, h.1, h.2)
+  filled_for first d es (Appended s t c n sent) h = h
   filled_for first d es (Acked s t c n) h = says first d (Applied s t c n) h
   filled_for first d es (Restarted s n) h = h
   filled_for first d es (Wrote c t e) h = h
   filled_for first d es (Committed c t n m) h = (h.0, h.1, says first d (Applied h.0 t c h.1) h.2, h.3)
   filled_for first d es (Applied s t c n) h = h
 
+  pub restored_for : (first : ℕ) (d : Data) (es : List (TraceEvent ℕ ℕ ℕ)) (e : TraceEvent ℕ ℕ ℕ)
+      → IsRestoredFor old first d es e → IsRestoredFor new first d es e
+  restored_for first d es (Campaigned s t) h = h
+  restored_for first d es (Granted s t c) h = h
+  restored_for first d es (Appended s t c n sent) h = (says first d (Restarted s (n + length sent)) h.0, h.1, h.2)
+  restored_for first d es (Acked s t c n) h = h
+  restored_for first d es (Restarted s n) h = h
+  restored_for first d es (Wrote c t e) h = h
+  restored_for first d es (Committed c t n m) h = h
+  restored_for first d es (Applied s t c n) h = h
+
   filled : (first : ℕ) (lines : List (List ℕ)) (es : List (TraceEvent ℕ ℕ ℕ)) (e : TraceEvent ℕ ℕ ℕ)
       → IsFilledIn old first lines es e → IsFilledIn new first lines es e
-  filled first lines es e h = (h.0, h.1, h.2, h.3, filled_for first h.1 es e h.4)
+  filled first lines es e (inl h) = inl (h.0, h.1, h.2, h.3, filled_for first h.1 es e h.4)
+  filled first lines es e (inr h) = inr (h.0, h.1, h.2, h.3, h.4, restored_for first h.2 es e h.5)
 
   fills : (first : ℕ) (lines : List (List ℕ)) (before after : List (TraceEvent ℕ ℕ ℕ))
       → FillsIn old first lines before after → FillsIn new first lines before after

@@ -1,5 +1,5 @@
 -- Lines that a judge takes.
-use Rattle.std.specs.Prelude.{◌≡◌, ◌<◌, ℕ, length, get_or, Bool, List, [], ◌∷◌, ◌++◌, Option, Some, None, Result, Ok, Err, IfErr}
+use Rattle.std.specs.Prelude.{◌≡◌, ◌<◌, ℕ, length, get_or, Bool, List, [], ◌∷◌, ◌++◌, Option, Some, None, Result, Ok, Err, IfErr, IfOk, OnOk}
 use Rattle.std.proofs.Common.{refl, sym, ap, subst, ◌∙◌, inl, inr, append_assoc, arith, zero, suc}
 use Rattle.std.specs.Global.{Vec}
 use Rattle.serde_json.specs.Data.{Data}
@@ -10,9 +10,9 @@ use Rattle.safety_laws.specs.Ranks.{IsAmong}
 use Rattle.safety_laws.specs.declared.counting.ConfigsCount.{ConfigsCount}
 use Rattle.trace_checker.specs.declared.memberships.Memberships.{Memberships}
 use Rattle.trace_judge.specs.Fields.{HasConfigs}
-use Rattle.trace_judge.specs.Filled.{AddsEach, FillsIn, IsFilledIn, IsFilledInFor}
-use Rattle.trace_judge.specs.Inner.Table.{Extends, IsTable, Learns, numbering}
-use Rattle.trace_judge.specs.Inner.Taken.{Fills, FillsFor, Fits, GoesOn, HasTaken, IsStarted, KeepsMore, KeepsTrace, Refuses, Stays, Takes, TakesEvent, TakesSaid, held_by, tests_for}
+use Rattle.trace_judge.specs.Filled.{AddsEach, FillsIn, IsFilledIn, IsFilledInFor, IsRestoredFor}
+use Rattle.trace_judge.specs.Inner.Table.{IsTable, Learns, numbering}
+use Rattle.trace_judge.specs.Inner.Taken.{FillsBy, FillsFor, GoesOn, HasTaken, IsStarted, KeepsMore, KeepsTrace, Refuses, RestoresFor, Stays, Takes, TakesEvent, TakesSaid, held_by, tests_for}
 use Rattle.trace_judge.specs.Inner.Votes.{AreVotesIn}
 use Rattle.trace_judge.specs.Line.{Says}
 use Rattle.trace_judge.specs.Names.{Numbering}
@@ -22,13 +22,18 @@ use Rattle.trace_judge.specs.declared.counts.Counts.{Counts}
 use Rattle.trace_judge.specs.declared.judge.Judge.{Judge}
 use Rattle.trace_judge.specs.declared.names.Names.{Names}
 use Rattle.trace_judge.proofs.lemmas.FillLemmas.{adds_both, adds_none, adds_weaker}
-use Rattle.trace_judge.proofs.lemmas.NameLemmas.{filled_for, trace_more}
+use Rattle.trace_judge.proofs.lemmas.NameLemmas.{filled_for, restored_for, trace_more}
 use Rattle.trace_judge.proofs.lemmas.VoteLemmas.{no_votes_in}
 
 -- what holds of each error holds of the one that is returned, if there is one
 pub whatever_err : {T E : Type 0} → (r : Result T E) (P : E → Type 0) → ((e : E) → P e) → IfErr r P
 whatever_err (Ok x) P h = tt
 whatever_err (Err e) P h = h e
+
+-- what follows for each value follows for the one that is returned, if there is one
+pub ok_then : {T E P : Type 0} → (r : Result T E) (Q : T → Type 0) → ((x : T) → P → Q x) → OnOk r P → IfOk r Q
+ok_then (Ok x) Q h p = h x p
+ok_then (Err e) Q h p = tt
 
 -- an item of a list is among them
 pub among_at : {X : Type 0} (xs : List X) (i : ℕ) (x : X) → i < length xs → x ≡ get_or xs i x → IsAmong x xs
@@ -64,12 +69,10 @@ trace_fills number_of first later (line ∷ taken) held es after is fills = (
 )
 
 -- what is filled in for a line is filled in for one of the lines that come later
-fills_in : (number_of : Numbering) (first : ℕ) (line : List ℕ) (d : Data) (later : List (List ℕ))
-    (es after : List (TraceEvent ℕ ℕ ℕ)) → read line ≡ Some d → IsAmong line later
-    → AddsEach (IsFilledInFor number_of first d) es after → FillsIn number_of first later es after
-fills_in number_of first line d later es after reads among fills =
-    adds_weaker (IsFilledInFor number_of first d) (IsFilledIn number_of first later)
-    (λ before e h. (line, d, among, reads, h)) es after fills
+filled_in_later : (number_of : Numbering) (first : ℕ) (line : List ℕ) (d : Data) (later : List (List ℕ))
+    → read line ≡ Some d → IsAmong line later → (es : List (TraceEvent ℕ ℕ ℕ)) (e : TraceEvent ℕ ℕ ℕ)
+    → IsFilledInFor number_of first d es e → IsFilledIn number_of first later es e
+filled_in_later number_of first line d later reads among es e h = inl (line, d, among, reads, h)
 
 -- votes that are in a trace are in it once events are filled in
 pub votes_filled : (votes : List (ℕ × (ℕ × ℕ))) (filled es : List (TraceEvent ℕ ℕ ℕ)) → AreVotesIn votes es
@@ -167,28 +170,57 @@ module _ (tests : ConfigsCount → Memberships ℕ ℕ → Tests ℕ ℕ ℕ (Op
         ),
   )
 
-  -- a judge fills in events for a line also after names have got numbers
-  fills_on : (number_of : Numbering) (first : ℕ) (d : Data) (old mid new : Judge) → FillsFor tests number_of first d old mid
-      → Extends number_of (numbering new.names) → new.first ≡ first → Stays tests mid new → Fills tests d old new
-  fills_on number_of first d old mid new fills more same stays = (
+  -- a judge fills in events before or after it stays the same
+  pub fills_on : (P Q : List (TraceEvent ℕ ℕ ℕ) → TraceEvent ℕ ℕ ℕ → Type 0)
+      → ((es : List (TraceEvent ℕ ℕ ℕ)) (e : TraceEvent ℕ ℕ ℕ) → P es e → Q es e) → (old mid new : Judge)
+      → FillsBy tests P old mid → Stays tests mid new → FillsBy tests Q old new
+  fills_on P Q weaker old mid new fills stays = (
     goes_on old mid new fills.0 stays.0,
     λ es keeps.
         let some = fills.1 es keeps in
         let next = stays.1 some.0 some.3 in (
           next.0,
-          subst (λ (l : List (TraceEvent ℕ ℕ ℕ)). AddsEach (IsFilledInFor (numbering new.names) new.first d) es l) (sym next.1)
-              (adds_weaker (IsFilledInFor number_of first d) (IsFilledInFor (numbering new.names) new.first d)
-              (λ before e h.
-              subst (λ (n : ℕ). IsFilledInFor (numbering new.names) n d before e) (sym same)
-              (filled_for number_of (numbering new.names) more first d before e h)) es some.0 some.1),
+          subst (λ (l : List (TraceEvent ℕ ℕ ℕ)). AddsEach Q es l) (sym next.1) (adds_weaker P Q weaker es some.0 some.1),
           next.2 ∙ some.2,
           next.3,
         ),
   )
 
-  pub fills_stays : (d : Data) (old mid new : Judge) → Fills tests d old mid → Stays tests mid new → Fills tests d old new
-  fills_stays d old mid new fills stays =
-      fills_on (numbering mid.names) mid.first d old mid new fills stays.0.2 stays.0.1 stays
+  pub fills_after : (P : List (TraceEvent ℕ ℕ ℕ) → TraceEvent ℕ ℕ ℕ → Type 0) (old mid new : Judge) → Stays tests old mid
+      → FillsBy tests P mid new → FillsBy tests P old new
+  fills_after P old mid new stays fills = (
+    goes_on old mid new stays.0 fills.0,
+    λ es keeps.
+        let some = stays.1 es keeps in
+        let next = fills.1 some.0 some.3 in (
+          next.0,
+          subst (λ (l : List (TraceEvent ℕ ℕ ℕ)). AddsEach P l next.0) some.1 next.1,
+          next.2 ∙ some.2,
+          next.3,
+        ),
+  )
+
+  pub stays_both : (old mid new : Judge) → Stays tests old mid → Stays tests mid new → Stays tests old new
+  stays_both old mid new one two = (
+    goes_on old mid new one.0 two.0,
+    λ es keeps.
+        let some = one.1 es keeps in
+        let next = two.1 some.0 some.3 in (next.0, next.1 ∙ some.1, next.2 ∙ some.2, next.3),
+  )
+
+  -- events that are filled in for a line are so after names have got numbers
+  filled_on : (old new : Judge) (d : Data) → GoesOn tests old new → (es : List (TraceEvent ℕ ℕ ℕ)) (e : TraceEvent ℕ ℕ ℕ)
+      → IsFilledInFor (numbering old.names) old.first d es e → IsFilledInFor (numbering new.names) new.first d es e
+  filled_on old new d goes es e h =
+      subst (λ (n : ℕ). IsFilledInFor (numbering new.names) n d es e) (sym goes.1)
+      (filled_for (numbering old.names) (numbering new.names) goes.2 old.first d es e h)
+
+  restored_on : (old new : Judge) (d : Data) → GoesOn tests old new → (es : List (TraceEvent ℕ ℕ ℕ))
+      (e : TraceEvent ℕ ℕ ℕ) → IsRestoredFor (numbering old.names) old.first d es e
+      → IsRestoredFor (numbering new.names) new.first d es e
+  restored_on old new d goes es e h =
+      subst (λ (n : ℕ). IsRestoredFor (numbering new.names) n d es e) (sym goes.1)
+      (restored_for (numbering old.names) (numbering new.names) goes.2 old.first d es e h)
 
   -- the trace of lines stays so for a judge that goes on
   trace_on : (old new : Judge) (later taken : List (List ℕ)) (held : List Held) (es : List (TraceEvent ℕ ℕ ℕ))
@@ -198,36 +230,45 @@ module _ (tests : ConfigsCount → Memberships ℕ ℕ → Tests ℕ ℕ ℕ (Op
       subst (λ (n : ℕ). IsTraceOf (numbering new.names) n later taken held es) (sym goes.1)
       (trace_more (numbering old.names) (numbering new.names) goes.2 old.first later taken held es is)
 
-  -- a judge has taken the same lines once events are filled in for a line that comes later
-  has_filled : (line : List ℕ) (d : Data) (old new : Judge) (later taken : List (List ℕ)) → read line ≡ Some d
-      → IsAmong line later → Fills tests d old new → HasTaken tests later taken old → HasTaken tests later taken new
-  has_filled line d old new later taken reads among fills has =
+  -- a judge has taken the same lines once events are filled in for lines that come later
+  has_filled : (P : List (TraceEvent ℕ ℕ ℕ) → TraceEvent ℕ ℕ ℕ → Type 0) (old new : Judge) (later taken : List (List ℕ))
+      → ((es : List (TraceEvent ℕ ℕ ℕ)) (e : TraceEvent ℕ ℕ ℕ) → P es e
+      → IsFilledIn (numbering new.names) new.first later es e)
+      → FillsBy tests P old new → HasTaken tests later taken old → HasTaken tests later taken new
+  has_filled P old new later taken filled fills has =
       let next = fills.1 has.trace has.keeps in
       record {
         trace = next.0;
         is_trace = rw next.2 (trace_fills (numbering new.names) new.first later taken (held_by tests old) has.trace next.0
             (trace_on old new later taken (held_by tests old) has.trace fills.0 has.is_trace)
-            (fills_in (numbering new.names) new.first line d later has.trace next.0 reads among next.1));
+            (adds_weaker P (IsFilledIn (numbering new.names) new.first later) filled has.trace next.0 next.1));
         keeps = next.3;
       }
 
   -- a line is refused, once events are filled in for it
-  pub refuses : (line : List ℕ) (d : Data) (old new : Judge) → read line ≡ Some d → Fills tests d old new
-      → Refuses tests line old new
-  refuses line d old new reads fills =
-      (fills.0, λ later taken among has. has_filled line d old new later taken reads among fills has)
+  pub refuses : (line : List ℕ) (d : Data) (old mid new : Judge) → read line ≡ Some d → Stays tests old mid
+      → FillsFor tests (numbering mid.names) mid.first d mid new → Refuses tests line old new
+  refuses line d old mid new reads stays fills = (
+    goes_on old mid new stays.0 fills.0,
+    λ later taken among has.
+        has_filled (IsFilledInFor (numbering mid.names) mid.first d) old new later taken
+        (λ es e h.
+        filled_in_later (numbering new.names) new.first line d later reads among es e (filled_on mid new d fills.0 es e h))
+        (fills_after (IsFilledInFor (numbering mid.names) mid.first d) old mid new stays fills) has,
+  )
 
   pub stays_still : (judge : Judge) → Stays tests judge judge
   stays_still judge = (goes_still judge, λ es keeps. (es, refl, refl, keeps))
 
-  takes_event : (line : List ℕ) (old mid new : Judge) (d : Data) (e : TraceEvent ℕ ℕ ℕ) (m : Option Held)
-      → Fills tests d old mid → read line ≡ Some d → Says (numbering mid.names) mid.first d e
-      → Fits tests d e mid → SaysMembership (numbering mid.names) d e m → TakesEvent tests e m mid new
-      → Takes tests line old new
-  takes_event line old mid new d e m fills reads says_e fits says_m takes = (
+  -- a line is taken by taking the event that it says, once events are filled in
+  takes_said : (P : List (TraceEvent ℕ ℕ ℕ) → TraceEvent ℕ ℕ ℕ → Type 0) (line : List ℕ) (old mid new : Judge) (d : Data)
+      → ((later : List (List ℕ)) (es : List (TraceEvent ℕ ℕ ℕ)) (e : TraceEvent ℕ ℕ ℕ) → P es e
+      → IsFilledIn (numbering mid.names) mid.first (line ∷ later) es e)
+      → FillsBy tests P old mid → read line ≡ Some d → TakesSaid tests d mid new → Takes tests line old new
+  takes_said P line old mid new d filled fills reads (e, (m, says_e, fits, says_m, takes)) = (
     goes_on old mid new fills.0 takes.0,
     λ later taken has.
-        let before = has_filled line d old mid (line ∷ later) taken reads (inl refl) fills has in
+        let before = has_filled P old mid (line ∷ later) taken (filled later) fills has in
         let next = takes.1 before.trace before.keeps in
         let added : AddsLine (numbering mid.names) mid.first line (held_by tests mid) before.trace (held_by tests new) next.0 =
         inr (d, e, m, reads, says_e, fits before.trace before.keeps, says_m, next.2, next.1) in
@@ -243,11 +284,27 @@ module _ (tests : ConfigsCount → Memberships ℕ ℕ → Tests ℕ ℕ ℕ (Op
         },
   )
 
-  -- a line is taken by taking the event that it says, once events are filled in
-  pub takes_line : (line : List ℕ) (old mid new : Judge) (d : Data) → Fills tests d old mid → read line ≡ Some d
-      → TakesSaid tests d mid new → Takes tests line old new
-  takes_line line old mid new d fills reads said =
-      takes_event line old mid new d said.0 said.1.0 fills reads said.1.1 said.1.2 said.1.3 said.1.4
+  -- a line is taken once events are filled in for it
+  pub takes_line : (line : List ℕ) (d : Data) (old start mid new : Judge) → read line ≡ Some d → Stays tests old start
+      → FillsFor tests (numbering start.names) start.first d start mid → TakesSaid tests d mid new
+      → Takes tests line old new
+  takes_line line d old start mid new reads stays fills said =
+      let P = IsFilledInFor (numbering start.names) start.first d in
+      takes_said P line old mid new d
+      (λ later es e h.
+      filled_in_later (numbering mid.names) mid.first line d (line ∷ later) reads (inl refl) es e
+      (filled_on start mid d fills.0 es e h))
+      (fills_after P old start mid stays fills) reads said
+
+  -- a line of a server that restarts is taken once entries are filled in that it has read from its disk
+  pub takes_restored : (line : List ℕ) (d : Data) (old start mid new : Judge) → read line ≡ Some d → Stays tests old start
+      → RestoresFor tests (numbering start.names) start.first d start mid → TakesSaid tests d mid new
+      → Takes tests line old new
+  takes_restored line d old start mid new reads stays fills said =
+      let P = IsRestoredFor (numbering start.names) start.first d in
+      takes_said P line old mid new d
+      (λ later es e h. inr (line, later, d, refl, reads, restored_on start mid d fills.0 es e h))
+      (fills_after P old start mid stays fills) reads said
 
   -- ---- events that the checker is asked for
 
@@ -362,24 +419,6 @@ module _ (tests : ConfigsCount → Memberships ℕ ℕ → Tests ℕ ℕ ℕ (Op
       record { exact = keeps.exact; table = learns.1 keeps.table; keeps = keeps.keeps; votes = keeps.votes },
     ),
   )
-
-  -- events are filled in after names have got numbers
-  pub fills_named : (d : Data) (old : Judge) (names : Names) (chart : Chart) (new : Judge) → Learns old.names names
-      → FillsFor tests (numbering names) old.first d (record old { names = names; chart = chart }) new → Fills tests d old new
-  fills_named d old names chart new learns fills =
-      let mid : Judge = record old { names = names; chart = chart } in
-      let named = stays_named old names chart learns in
-      fills_on (numbering names) old.first d old new new (
-        goes_on old mid new named.0 fills.0,
-        λ es keeps.
-            let some = named.1 es keeps in
-            let more = fills.1 some.0 some.3 in (
-              more.0,
-              subst (λ (l : List (TraceEvent ℕ ℕ ℕ)). AddsEach (IsFilledInFor (numbering names) old.first d) l more.0) some.1 more.1,
-              more.2 ∙ some.2,
-              more.3,
-            ),
-      ) fills.0.2 fills.0.1 (stays_still new)
 
   -- a judge takes an event once it has refused another one
   pub takes_after : (old mid new : Judge) (e : TraceEvent ℕ ℕ ℕ) (m : Option Held) → Stays tests old mid

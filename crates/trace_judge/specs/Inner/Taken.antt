@@ -8,7 +8,7 @@ use Rattle.safety_laws.specs.declared.counting.ConfigsCount.{ConfigsCount}
 use Rattle.trace_checker.specs.declared.checker.violation.Violation.TheVariants.{Rule as BreaksRule}
 use Rattle.trace_checker.specs.declared.memberships.Memberships.{Memberships}
 use Rattle.trace_judge.specs.Fields.{number_in}
-use Rattle.trace_judge.specs.Filled.{AddsEach, IsFilledInFor}
+use Rattle.trace_judge.specs.Filled.{AddsEach, IsFilledInFor, IsRestoredFor}
 use Rattle.trace_judge.specs.Inner.Table.{Extends, IsTable, numbering}
 use Rattle.trace_judge.specs.Inner.Votes.{AreVotesIn}
 use Rattle.trace_judge.specs.Line.{Says}
@@ -99,13 +99,17 @@ module _ (tests : ConfigsCount → Memberships ℕ ℕ → Tests ℕ ℕ ℕ (Op
   abbrev pub Stays : Judge → Judge → Type 0
   Stays old new = KeepsMore (λ es after. after ≡ es) None old new
 
-  -- a judge fills in events for a line, by these numbers of names
-  abbrev pub FillsFor : Numbering → ℕ → Data → Judge → Judge → Type 0
-  FillsFor number_of first d old new = KeepsMore (AddsEach (IsFilledInFor number_of first d)) None old new
+  -- a judge fills in events that fulfil this
+  abbrev pub FillsBy : (List (TraceEvent ℕ ℕ ℕ) → TraceEvent ℕ ℕ ℕ → Type 0) → Judge → Judge → Type 0
+  FillsBy P old new = KeepsMore (AddsEach P) None old new
 
-  -- a judge fills in events for a line
-  abbrev pub Fills : Data → Judge → Judge → Type 0
-  Fills d old new = FillsFor (numbering new.names) new.first d old new
+  -- a judge fills in events for a line of a server that applies entries, by these numbers of names
+  abbrev pub FillsFor : Numbering → ℕ → Data → Judge → Judge → Type 0
+  FillsFor number_of first d old new = FillsBy (IsFilledInFor number_of first d) old new
+
+  -- a judge fills in events for a line of a server that restarts, by these numbers of names
+  abbrev pub RestoresFor : Numbering → ℕ → Data → Judge → Judge → Type 0
+  RestoresFor number_of first d old new = FillsBy (IsRestoredFor number_of first d) old new
 
   -- a judge fills in events for each line that says that a server applies so many first entries
   abbrev pub FillsApplied : ℕ → ℕ → Judge → Judge → Type 0
@@ -113,19 +117,26 @@ module _ (tests : ConfigsCount → Memberships ℕ ℕ → Tests ℕ ℕ ℕ (Op
       (number_of : Numbering) (first : ℕ) (d : Data) → Says number_of first d (Applied s 0 0 n)
       → FillsFor number_of first d old new
 
-  -- a judge fills in an event for each line for which it may be filled in
+  -- a judge fills in events for each line that says that a server restarts with so many first entries, of
+  -- which the last one is of a term
+  abbrev pub FillsRestarted : ℕ → ℕ → ℕ → Judge → Judge → Type 0
+  FillsRestarted s n t old new =
+      (number_of : Numbering) (first : ℕ) (d : Data) → Says number_of first d (Restarted s n)
+      → number_in (codes "last_term") d ≡ Some t → RestoresFor number_of first d old new
+
+  -- a judge fills in an event for each line of a server that applies entries, if it may be filled in
   abbrev pub FillsInto : TraceEvent ℕ ℕ ℕ → Judge → Judge → Type 0
   FillsInto e old new =
       (number_of : Numbering) (first : ℕ) (d : Data)
       → ((es : List (TraceEvent ℕ ℕ ℕ)) → KeepsTrace old es → IsFilledInFor number_of first d es e)
       → FillsFor number_of first d old new
 
-  -- a judge fills in events for each line that says that a server restarts with so many first entries, of
-  -- which the last one is of a term
-  abbrev pub FillsRestarted : ℕ → ℕ → ℕ → Judge → Judge → Type 0
-  FillsRestarted s n t old new =
-      (number_of : Numbering) (first : ℕ) (d : Data) → Says number_of first d (Restarted s n)
-      → number_in (codes "last_term") d ≡ Some t → FillsFor number_of first d old new
+  -- a judge fills in an event for each line of a server that restarts, if it may be filled in
+  abbrev pub RestoresInto : TraceEvent ℕ ℕ ℕ → Judge → Judge → Type 0
+  RestoresInto e old new =
+      (number_of : Numbering) (first : ℕ) (d : Data)
+      → ((es : List (TraceEvent ℕ ℕ ℕ)) → KeepsTrace old es → IsRestoredFor number_of first d es e)
+      → RestoresFor number_of first d old new
 
   -- a judge takes one event more, whose entry holds the membership, if there is one
   abbrev pub TakesEvent : TraceEvent ℕ ℕ ℕ → Option Held → Judge → Judge → Type 0
