@@ -9,12 +9,13 @@ use Rattle.trace_judge.specs.Logs.{EndsInTerm, TakesMissing}
 use Rattle.trace_judge.specs.Names.{Numbering}
 use Rattle.trace_judge.specs.Numbers.{log_tests}
 
--- a trace has events more, and this holds of each of them after the events before it. The latest is first
+-- this holds of each event, after the events before it. The latest event is first
 abbrev pub HoldAfter : (List (TraceEvent ℕ ℕ ℕ) → TraceEvent ℕ ℕ ℕ → Type 0) → List (TraceEvent ℕ ℕ ℕ)
     → List (TraceEvent ℕ ℕ ℕ) → Type 0
 HoldAfter P before [] = Unit {0}
 HoldAfter P before (e ∷ more) = P (more ++ before) e × HoldAfter P before more
 
+-- a trace has events more, of each of which this holds after the events before it
 abbrev pub AddsEach : (List (TraceEvent ℕ ℕ ℕ) → TraceEvent ℕ ℕ ℕ → Type 0) → List (TraceEvent ℕ ℕ ℕ)
     → List (TraceEvent ℕ ℕ ℕ) → Type 0
 AddsEach P before after = (more : List (TraceEvent ℕ ℕ ℕ)) × HoldAfter P before more × (after ≡ more ++ before)
@@ -28,8 +29,8 @@ IsFilledInFor number_of first d es (Committed c t n m) =
     × (n ≡ max len (length (candidate_log_in log_tests es t c) + 1))
 IsFilledInFor number_of first d es e = ⊥
 
--- an event is filled in, after other events, for a line which says that a server restarts: the server has
--- taken the entries from a leader that it has read from its disk
+-- an event is filled in, after other events, for a line which says that a server restarts: the server takes
+-- from a leader the entries that its log lacks of those that it has read from its disk
 abbrev pub IsRestoredFor : Numbering → ℕ → Data → List (TraceEvent ℕ ℕ ℕ) → TraceEvent ℕ ℕ ℕ → Type 0
 IsRestoredFor number_of first d es (Appended s t c n sent) =
     let len = n + length sent in
@@ -37,7 +38,8 @@ IsRestoredFor number_of first d es (Appended s t c n sent) =
     × EndsInTerm d len (leader_log_in log_tests es t c)
 IsRestoredFor number_of first d es e = ⊥
 
--- an event is filled in for one of these lines, or for the first one if a server restarts
+-- an event is filled in for one of these lines, in which a server applies entries, or for the first one, in
+-- which a server restarts
 abbrev pub IsFilledIn : Numbering → ℕ → List (List ℕ) → List (TraceEvent ℕ ℕ ℕ) → TraceEvent ℕ ℕ ℕ → Type 0
 IsFilledIn number_of first lines es e =
     ((line : List ℕ) × (d : Data) × IsAmong line lines × (read line ≡ Some d) × IsFilledInFor number_of first d es e)

@@ -22,8 +22,8 @@ use trace_checker::event::Event;
 const TRIED: usize = 64;
 
 impl Judge {
-    /// Fills in that a leader commits what a server has applied, if a line says so and events may be
-    /// filled in. It is one of the last leaders that the server has followed.
+    /// Fills in that a leader commits what a server has applied, if a line says so and events may
+    /// be filled in. It is one of the last leaders that the server has followed.
     ///
     /// # Errors
     ///
@@ -47,8 +47,8 @@ impl Judge {
         self.commit_applied(server, len)
     }
 
-    /// Fills in that a leader commits so many first entries, which a server has applied, unless they
-    /// are committed.
+    /// Fills in that a leader commits so many first entries, which a server has applied, unless
+    /// they are committed.
     fn commit_applied(&mut self, server: u64, len: usize) -> Result<(), AllocError>
         ensures { OnOk result (FillsApplied number_tests server len self.old self.new) }
     {
@@ -186,9 +186,9 @@ impl Judge {
     }
 
     /// Fills in that a server has taken the entries that it has read from its disk, if a line says
-    /// that it restarts, its log does not end so, and events may be filled in. The entries are of the
-    /// leader of `last_term`, or of the first later one that allows it. So the server is in no later
-    /// term than it has to be. Returns whether the server has taken entries.
+    /// that it restarts, its log does not end so, and events may be filled in. The entries are of
+    /// the leader of `last_term`, or of the first later one that allows it. So the server is in no
+    /// later term than it has to be. Returns whether the server has taken entries.
     ///
     /// # Errors
     ///
@@ -309,7 +309,8 @@ impl Judge {
             (FillsInto number_tests (trace_event event.now) self.old self.new) }
         ensures restores { OnOk result
             (RestoresInto number_tests (trace_event event.now) self.old self.new) }
-        ensures stays { IfOk result (λ added. IsFalse added → Stays number_tests self.old self.new) }
+        ensures stays { IfOk result (λ added. IsFalse added →
+            Stays number_tests self.old self.new) }
     {
         match self.checker.record(event) {
             Ok(()) => {
