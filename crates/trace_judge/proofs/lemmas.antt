@@ -1,4 +1,5 @@
 pub mod FieldLemmas
+pub mod FillLemmas
 pub mod NameLemmas
 pub mod RunLemmas
 pub mod VoteLemmas

@@ -1,5 +1,6 @@
 -- Lists of lines, each of one input.
-use Rattle.std.specs.Prelude.{◌≡◌, ℕ, List, Option, Some, map}
+use Rattle.std.specs.Prelude.{◌≡◌, ℕ, List, Option, Some, map, true}
+use Rattle.safety_laws.specs.Ranks.{IsAmong}
 use Rattle.trace_lines.specs.Reader.{IsAtEnd, lines_of, lines_read}
 use Rattle.trace_judge.specs.declared.input.Lines.{Lines}
 
@@ -10,6 +11,10 @@ read_of list = lines_read list.reader
 -- a list was read to its end
 abbrev pub IsReadToEnd : {B : Type 0} → Lines B → Type 0
 IsReadToEnd list = IsAtEnd list.reader
+
+-- if a list waits with a line, the line is one of these
+abbrev pub WaitsWith : {B : Type 0} → List (List ℕ) → Lines B → Type 0
+WaitsWith waiting list = list.reader.is_pending ≡ true → IsAmong list.reader.line.items waiting
 
 -- all lines of a list, if the bytes of its input are known
 abbrev pub known_of : {B : Type 0} → (B → Option (List ℕ)) → Lines B → Option (List (List ℕ))

@@ -3,6 +3,8 @@ pub mod Fields
 pub mod Line
 pub mod Names
 pub mod Numbers
+pub mod Logs
+pub mod Filled
 pub mod Run
 pub mod Lists
 pub mod Inner

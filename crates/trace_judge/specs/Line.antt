@@ -15,16 +15,16 @@ IsVote e = ⊥
 -- names have these numbers
 module _ (number_of : Numbering) where
   -- a line says which entries a server takes: it keeps those up to the index `prev`, and these come then. A
-  -- line without entries is of a snapshot, which has all entries up to its index: those that the server
-  -- keeps, and these
+  -- line without entries is of a snapshot, which has all entries of the leader up to its index: those that
+  -- the server keeps, and these
   abbrev pub SaysEntries : ℕ → Data → ℕ → List (Entry ℕ ℕ) → Type 0
   SaysEntries first d n sent =
       (IsLen (codes "prev") first n d × HasEntries number_of d sent)
       ⊎ ((get (codes "entries") d ≡ None) × IsLen (codes "index") first (n + length sent) d)
 
   -- a line says an event, where the first entry has this index. It does not say which leader has
-  -- committed what a server applies, nor what the entries of a snapshot are, and it need not say by which
-  -- config a leader counts
+  -- committed what a server applies, and it need not say by which config a leader counts. The entries of a
+  -- snapshot, and what a line says of a log, are those that fit the logs (`FitsLogs`)
   abbrev pub Says : ℕ → Data → TraceEvent ℕ ℕ ℕ → Type 0
   Says first d (Campaigned s t) =
       IsNamed (codes "campaigned") d

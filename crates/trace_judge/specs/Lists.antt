@@ -14,9 +14,9 @@ IsMerge lists (line ∷ later) grown =
     × IsMerge (slice_set lists i (list ++ line ∷ [])) later grown
 
 module _ (tests : ConfigsCount → Memberships ℕ ℕ → Tests ℕ ℕ ℕ (Option ℕ)) where
-  -- the lines by which lists have grown have an order in which they are a safe run, and which keeps the order
-  -- of each list
-  pub record HaveSafeMerge (lists grown : List (List (List ℕ))) : Type 0 where
+  -- the lines by which lists have grown have an order in which they are a safe run, before the lines that
+  -- wait, and which keeps the order of each list
+  pub record HaveSafeMerge (waiting : List (List ℕ)) (lists grown : List (List (List ℕ))) : Type 0 where
     pub merged : List (List ℕ)
     pub is_merge : IsMerge lists merged grown
-    pub is_safe : SafeRun tests merged
+    pub is_safe : SafeRun tests waiting merged

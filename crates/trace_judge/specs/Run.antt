@@ -1,17 +1,18 @@
 -- A recorded run, and the trace that its lines say.
 use Rattle.std.specs.Prelude.{◌≡◌, ◌⊎◌, ℕ, true, List, [], ◌∷◌, ◌++◌, Option, Some, None, codes}
 use Rattle.std.specs.Global.{Vec}
-use Rattle.std.specs.List.{All}
 use Rattle.serde_json.specs.Data.{Data}
 use Rattle.serde_json.specs.Find.{get}
 use Rattle.serde_json.specs.Read.{read}
 use Rattle.safety_laws.specs.Ranks.{IsAmong}
-use Rattle.safety_laws.specs.Trace.{Tests, TraceEvent, Appended, Acked, Wrote, Committed}
+use Rattle.safety_laws.specs.Trace.{Tests, TraceEvent, Wrote}
 use Rattle.trace_checker.specs.Counted.{IsSafeWhen, are_all_allowed}
 use Rattle.safety_laws.specs.declared.counting.ConfigsCount.{ConfigsCount}
 use Rattle.trace_checker.specs.declared.memberships.Memberships.{Memberships}
+use Rattle.trace_judge.specs.Filled.{FillsIn}
 use Rattle.trace_judge.specs.Fields.{HasConfigs, IsCounting, IsFirst, IsNamed}
 use Rattle.trace_judge.specs.Line.{IsVote, Says}
+use Rattle.trace_judge.specs.Logs.{FitsLogs}
 use Rattle.trace_judge.specs.Names.{AreApart, Numbering}
 
 -- a trace has one event more, or the event is a vote that the trace has already
@@ -34,38 +35,27 @@ abbrev pub AddsMembership : Option Held → List Held → List Held → Type 0
 AddsMembership None before after = after ≡ before
 AddsMembership (Some m) before after = (after ≡ before ++ m ∷ []) ⊎ (IsAmong m before × (after ≡ before))
 
--- a trace has the event more that a line says, and there is the membership more that its entry holds. An
--- empty line says nothing
+-- a trace has the event more that a line says, which fits the logs so far, and there is the membership
+-- more that its entry holds. An empty line says nothing
 abbrev pub AddsLine : Numbering → ℕ → List ℕ → List Held → List (TraceEvent ℕ ℕ ℕ) → List Held
     → List (TraceEvent ℕ ℕ ℕ) → Type 0
 AddsLine number_of first line known before held after =
     ((line ≡ []) × (held ≡ known) × (after ≡ before))
     ⊎ ((d : Data) × (e : TraceEvent ℕ ℕ ℕ) × (m : Option Held) × (read line ≡ Some d)
-    × Says number_of first d e × SaysMembership number_of d e m × AddsMembership m known held
-    × Adds e before after)
+    × Says number_of first d e × FitsLogs first before d e × SaysMembership number_of d e m
+    × AddsMembership m known held × Adds e before after)
 
--- an event that may be filled in, though no line says it: a server takes or acknowledges entries, or a
--- leader commits them
-abbrev pub IsFilledIn : TraceEvent ℕ ℕ ℕ → Type 0
-IsFilledIn (Appended s t c n sent) = Unit {0}
-IsFilledIn (Acked s t c n) = Unit {0}
-IsFilledIn (Committed c t n m) = Unit {0}
-IsFilledIn e = ⊥
-
--- a trace has events more, each of which may be filled in
-abbrev pub FillsIn : List (TraceEvent ℕ ℕ ℕ) → List (TraceEvent ℕ ℕ ℕ) → Type 0
-FillsIn before after =
-    (filled : List (TraceEvent ℕ ℕ ℕ)) × All IsFilledIn filled × (after ≡ filled ++ before)
-
--- a trace is what these lines say, in their order, but for votes that it has already, and for events
--- that are filled in at any place. The memberships are those that lines say. The latest line and the
--- latest event are first
-abbrev pub IsTraceOf : Numbering → ℕ → List (List ℕ) → List Held → List (TraceEvent ℕ ℕ ℕ) → Type 0
-IsTraceOf number_of first [] held es = (held ≡ []) × FillsIn [] es
-IsTraceOf number_of first (line ∷ earlier) held es =
-    (known : List Held) × (before : List (TraceEvent ℕ ℕ ℕ)) × IsTraceOf number_of first earlier known before
+-- a trace is what these lines say, in their order, but for votes that it has already, and for events that
+-- are filled in: directly before a line for which a server restarts, or anywhere before a line for which it
+-- applies entries. The memberships are those that lines say. The latest line and the latest event are
+-- first. `later` are the lines that come after these
+abbrev pub IsTraceOf : Numbering → ℕ → List (List ℕ) → List (List ℕ) → List Held → List (TraceEvent ℕ ℕ ℕ) → Type 0
+IsTraceOf number_of first later [] held es = (held ≡ []) × FillsIn number_of first later [] es
+IsTraceOf number_of first later (line ∷ earlier) held es =
+    (known : List Held) × (before : List (TraceEvent ℕ ℕ ℕ))
+    × IsTraceOf number_of first (line ∷ later) earlier known before
     × ((after : List (TraceEvent ℕ ℕ ℕ)) × AddsLine number_of first line known before held after
-    × FillsIn after es)
+    × FillsIn number_of first later after es)
 
 -- lines after which others come, the latest first
 abbrev pub and_lines : List (List ℕ) → List (List ℕ) → List (List ℕ)
@@ -96,8 +86,8 @@ LeavesStartsOut first_line (line ∷ later) kept =
 
 module _ (tests : ConfigsCount → Memberships ℕ ℕ → Tests ℕ ℕ ℕ (Option ℕ)) where
   -- the lines after the first one are a trace that is allowed, and so it is safe. The numbers in it stand
-  -- for the names that the lines have
-  pub record SafeRun (run : List (List ℕ)) : Type 0 where
+  -- for the names that the lines have. `waiting` are lines that come after these and were not taken
+  pub record SafeRun (waiting run : List (List ℕ)) : Type 0 where
     pub first_line : List ℕ
     pub later : List (List ℕ)
     pub lines_are : run ≡ first_line ∷ later
@@ -110,6 +100,6 @@ module _ (tests : ConfigsCount → Memberships ℕ ℕ → Tests ℕ ℕ ℕ (Op
     pub apart : AreApart number_of
     pub starts : SaysStart number_of first_line members.initial.items first counting
     pub trace : List (TraceEvent ℕ ℕ ℕ)
-    pub is_trace : IsTraceOf number_of first (and_lines [] kept) members.held.items trace
+    pub is_trace : IsTraceOf number_of first waiting (and_lines [] kept) members.held.items trace
     pub allowed : are_all_allowed (tests counting members) trace ≡ true
     pub safe : IsSafeWhen (tests counting members) trace

@@ -1,11 +1,12 @@
 //! The events of lines.
 ghost use Rattle.std.specs.Prelude.{◌≡◌, ℕ, IfOk, IfSome, IsSome, None, codes};
-ghost use Rattle.trace_checker.specs.Checker.{event_of as trace_event};
+ghost use Rattle.trace_checker.specs.Checker.{OfAll, configs_of, counting_of, event_of as trace_event, kept_by};
 ghost use Rattle.serde_json.specs.Find.{get};
 ghost use Rattle.serde_json.specs.View.{view};
-ghost use Rattle.trace_judge.specs.Inner.Reading.{IsTaken, TakesUpTo};
+ghost use Rattle.trace_judge.specs.Inner.Reading.{IsMissing, IsTaken, TakesUpTo};
 ghost use Rattle.trace_judge.specs.Inner.Table.{numbering};
 ghost use Rattle.trace_judge.specs.Line.{Says};
+ghost use Rattle.trace_judge.specs.Numbers.{number_tests};
 
 use crate::field::{entries, event_name, id, is_named, len, number};
 use crate::names::Names;
@@ -146,7 +147,11 @@ pub fn taken_from(
     leader: u64,
     len: usize,
 ) -> Result<Option<Act>, AllocError>
-    ensures { IfOk result (λ o. IfSome o (λ e. TakesUpTo server term leader len (trace_event e))) }
+    ensures up_to { IfOk result
+        (λ o. IfSome o (λ e. TakesUpTo server term leader len (trace_event e))) }
+    ensures missing { let k = number_tests (counting_of checker.now) (configs_of checker.now) in
+        OfAll k (kept_by checker.now) (λ es. IfOk result
+        (λ o. IfSome o (λ e. IsMissing es (trace_event e)))) }
 {
     let keep = checker.common_len(server, term, leader).min(len);
     match checker.leader_entries(alloc, term, leader, keep, len)? {

@@ -1,5 +1,5 @@
 //! The fields of a line.
-ghost use Rattle.std.specs.Prelude.{◌≡◌, Some, IfOk, IfSome, IsTrue, option_map};
+ghost use Rattle.std.specs.Prelude.{◌≡◌, Some, IfOk, IfSome, IsFalse, IsTrue, option_map};
 ghost use Rattle.serde_json.specs.Read.{read};
 ghost use Rattle.serde_json.specs.View.{items_view, view};
 ghost use Rattle.trace_judge.specs.Fields.{HasConfigs, HasEntries, IsConfig, IsCounting, IsEntry, IsFirst, IsId, IsLen, IsNamed, list_in, number_in, text_in};
@@ -38,7 +38,8 @@ pub fn event_name(value: &Value) -> Option<&str> {
 
 /// Whether the event has this name.
 pub fn is_named(value: &Value, name: &str) -> bool
-    ensures { IsTrue result → IsNamed name.now (view value.now) }
+    ensures yes { IsTrue result → IsNamed name.now (view value.now) }
+    ensures no { IsFalse result → IsNamed name.now (view value.now) → ⊥ }
 {
     match value.get("event").and_then(Value::as_str) {
         Some(text) => text == name,

@@ -47,6 +47,7 @@ impl<B: BufRead> Lines<B> {
         ensures pending { IfOk result (λ is_pending. self.new.reader.is_pending ≡ is_pending) }
         ensures none_passed { IfOk result (λ _. read_of self.new ≡ read_of self.old) }
         ensures known { IfOk result (λ _. KeepsLines B.remaining self.old.reader self.new.reader) }
+        ensures waits { self.old.reader.is_pending ≡ true → self.new.reader ≡ self.old.reader }
     {
         self.reader.has_next()
     }

@@ -1,11 +1,13 @@
 //! Judges the lines of a recorded run.
-ghost use Rattle.std.specs.Prelude.{IfErr, IfOk, IfSome, None, OnOk};
+ghost use Rattle.std.specs.Prelude.{ℕ, List, IfErr, IfOk, IfSome, None, OnOk};
 ghost use Rattle.trace_checker.specs.Checker.{configs_of, event_of as trace_event};
 ghost use Rattle.safety_laws.specs.Ranks.{IsAmong};
+ghost use Rattle.safety_laws.specs.Trace.{TraceEvent};
 ghost use Rattle.serde_json.specs.View.{view};
 ghost use Rattle.trace_judge.specs.Inner.Table.{numbering};
-ghost use Rattle.trace_judge.specs.Inner.Taken.{IsBroken, IsStarted, Refuses, Stays, Takes, TakesEvent, TakesHolding, TakesSaid};
+ghost use Rattle.trace_judge.specs.Inner.Taken.{Fits, IsBroken, IsStarted, KeepsTrace, Refuses, Stays, Takes, TakesEvent, TakesHolding, TakesSaid};
 ghost use Rattle.trace_judge.specs.Line.{Says};
+ghost use Rattle.trace_judge.specs.Logs.{HasLastTerm, HasLeaderEntries, HasNextIndex};
 ghost use Rattle.trace_judge.specs.Numbers.{number_tests};
 ghost use Rattle.trace_judge.specs.Run.{SaysMembership};
 
@@ -15,7 +17,7 @@ use crate::counts::Counts;
 use crate::event::{Act, Checking, event_of, installed, taken_from};
 use crate::facts::{Facts, Place};
 use crate::fault::Fault;
-use crate::field::{configs, number, value_of};
+use crate::field::{configs, is_named, number, value_of};
 use crate::followed::Followers;
 use crate::names::Names;
 use crate::start::start_of;
@@ -88,7 +90,7 @@ impl Judge {
     ) -> Result<(), Fault>
         ensures taken { OnOk result (Takes number_tests line.now self.old self.new) }
         ensures broken { IfErr result (λ fault. IsBroken fault →
-            Refuses number_tests self.old self.new) }
+            Refuses number_tests line.now self.old self.new) }
     {
         if line.is_empty() {
             return Ok(());
@@ -98,8 +100,24 @@ impl Judge {
         };
         self.names.learn(&value)?;
         self.chart.begin(place.line, self.counts.events, &value)?;
-        self.fill_in(alloc, fills, &value)?;
+        if self.fill_in_append(alloc, fills, &value)? {
+            return self.take_restored(alloc, place, &value);
+        }
+        self.fill_in_commit(fills, &value)?;
         self.take_value(alloc, place, &value)
+    }
+
+    /// Takes the event that a server restarts, which the value of a line says, after the server has
+    /// taken the entries that it has read from its disk. Its log ends as the line says, so the line
+    /// breaks no rule: it is not taken only if there is no memory.
+    fn take_restored(&mut self, alloc: Global, place: Place, value: &Value) -> Result<(), Fault>
+        ensures taken { OnOk result (TakesSaid number_tests (view value.now) self.old self.new) }
+        ensures broken { IfErr result (λ fault. IsBroken fault → ⊥) }
+    {
+        match self.take_value(alloc, place, value) {
+            Ok(()) => Ok(()),
+            Err(_) => Err(Fault::from(Violation::OutOfMemory)),
+        }
     }
 
     /// Takes the event that the value of a line says.
@@ -123,6 +141,7 @@ impl Judge {
     fn take_counted(&mut self, place: Place, value: &Value, event: &Act) -> Result<(), Fault>
         ensures taken { let number_of = numbering self.old.names in OnOk result
             (Says number_of self.old.first (view value.now) (trace_event event.now) →
+            Fits number_tests (view value.now) (trace_event event.now) self.old →
             SaysMembership number_of (view value.now) (trace_event event.now) None →
             TakesSaid number_tests (view value.now) self.old self.new) }
         ensures broken { IfErr result (λ fault. IsBroken fault →
@@ -147,19 +166,37 @@ impl Judge {
 
     /// Returns the event that a line says. The entries of a snapshot are those of the leader.
     fn event(&self, alloc: Global, value: &Value) -> Result<Act, Fault>
-        ensures { IfOk result (λ e.
+        ensures says { IfOk result (λ e.
             Says (numbering self.now.names) self.now.first (view value.now) (trace_event e)) }
+        ensures entries { IfOk result (λ e. (es : List (TraceEvent ℕ ℕ ℕ)) →
+            KeepsTrace number_tests self.now es →
+            HasLeaderEntries es (view value.now) (trace_event e)) }
+    {
+        if is_named(value, "appended") && value.get("entries").is_none() {
+            return self.snapshot(alloc, value);
+        }
+        let event = event_of(
+            alloc,
+            &self.names,
+            value,
+            self.first,
+            self.counts.committed_by,
+            &self.checker,
+        )?;
+        event.ok_or(Fault::Malformed)
+    }
+
+    /// Returns the event that a server installs the snapshot which a line says. The entries are
+    /// those of the leader.
+    fn snapshot(&self, alloc: Global, value: &Value) -> Result<Act, Fault>
+        ensures says { IfOk result (λ e.
+            Says (numbering self.now.names) self.now.first (view value.now) (trace_event e)) }
+        ensures entries { IfOk result (λ e. (es : List (TraceEvent ℕ ℕ ℕ)) →
+            KeepsTrace number_tests self.now es →
+            HasLeaderEntries es (view value.now) (trace_event e)) }
     {
         let Some((server, term, leader, len)) = installed(&self.names, value, self.first) else {
-            let event = event_of(
-                alloc,
-                &self.names,
-                value,
-                self.first,
-                self.counts.committed_by,
-                &self.checker,
-            )?;
-            return event.ok_or(Fault::Malformed);
+            return Err(Fault::Malformed);
         };
         match taken_from(alloc, &self.checker, server, term, leader, len)? {
             Some(event) => Ok(event),
@@ -168,7 +205,11 @@ impl Judge {
     }
 
     /// Tests that an entry has the next index of its leader, if the line says one.
-    fn test_index(&self, value: &Value, event: &Act) -> Result<(), Fault> {
+    fn test_index(&self, value: &Value, event: &Act) -> Result<(), Fault>
+        ensures { OnOk result ((es : List (TraceEvent ℕ ℕ ℕ)) →
+            KeepsTrace number_tests self.now es →
+            HasNextIndex self.now.first es (view value.now) (trace_event event.now)) }
+    {
         let Event::Wrote { leader, term, .. } = event else {
             return Ok(());
         };
@@ -179,18 +220,21 @@ impl Judge {
             return Err(Fault::Malformed);
         };
         let Some(len) = self.checker.leader_len(*term, *leader) else {
-            return Ok(());
+            return Err(Fault::from(Violation::Rule(Rule::NotElected)));
         };
-        if self.first.checked_add(len as u64) == Some(index) {
-            Ok(())
-        } else {
-            Err(Fault::Skips(self.index(len)))
+        match self.first.checked_add(len as u64) {
+            Some(next) if next == index => Ok(()),
+            _ => Err(Fault::Skips(self.index(len))),
         }
     }
 
     /// Tests that a server has read an entry from its disk that is in its log, if the line says the
     /// term of the last one.
-    fn test_last_term(&self, value: &Value, event: &Act) -> Result<(), Fault> {
+    fn test_last_term(&self, value: &Value, event: &Act) -> Result<(), Fault>
+        ensures { OnOk result ((es : List (TraceEvent ℕ ℕ ℕ)) →
+            KeepsTrace number_tests self.now es →
+            HasLastTerm es (view value.now) (trace_event event.now)) }
+    {
         let Event::Restarted { server, len } = event else {
             return Ok(());
         };
@@ -200,11 +244,13 @@ impl Judge {
         let Some(last_term) = number(value, "last_term") else {
             return Err(Fault::Malformed);
         };
-        match self.checker.server_entry(*server, *len) {
-            Some(entry) if entry.term != last_term => {
-                Err(Fault::from(Violation::Rule(Rule::ForeignEntries)))
-            }
-            _ => Ok(()),
+        let Some(entry) = self.checker.server_entry(*server, *len) else {
+            return Ok(());
+        };
+        if entry.term == last_term {
+            Ok(())
+        } else {
+            Err(Fault::from(Violation::Rule(Rule::ForeignEntries)))
         }
     }
 

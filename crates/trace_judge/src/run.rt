@@ -1,10 +1,11 @@
 //! Judges a recorded run, which is one list of lines or several.
 ghost use Rattle.std.specs.Prelude.{◌≡◌, ◌*◌, ◌<◌, ◌≤◌, [], ◌∷◌, ℕ, List, IfErr, IfOk, IsTrue, OnOk, Some, map};
+ghost use Rattle.safety_laws.specs.Ranks.{IsAmong};
 ghost use Rattle.trace_lines.specs.Reader.{KeepsLines};
 ghost use Rattle.std.specs.List.{All};
-ghost use Rattle.trace_judge.specs.Inner.Judged.{Begins, Judges, JudgesNext, JudgesSome};
+ghost use Rattle.trace_judge.specs.Inner.Judged.{Begins, Judges, JudgesBefore, JudgesNext, JudgesSome};
 ghost use Rattle.trace_judge.specs.Inner.Taken.{IsBroken};
-ghost use Rattle.trace_judge.specs.Input.{IsReadToEnd, KeepKnown, known_of, read_of};
+ghost use Rattle.trace_judge.specs.Input.{IsReadToEnd, KeepKnown, WaitsWith, known_of, read_of};
 ghost use Rattle.trace_judge.specs.Lists.{HaveSafeMerge};
 ghost use Rattle.trace_judge.specs.Numbers.{number_tests};
 ghost use Rattle.trace_judge.specs.Run.{SafeRun};
@@ -65,12 +66,14 @@ pub fn run<B: BufRead>(
     answer: &mut String,
 ) -> u8
     ensures ended { result ≡ 0 → All IsReadToEnd lists.new }
-    ensures safe { result ≤ 1 →
-        HaveSafeMerge number_tests (map read_of lists.old) (map read_of lists.new) }
+    ensures safe { result ≡ 0 →
+        HaveSafeMerge number_tests [] (map read_of lists.old) (map read_of lists.new) }
+    ensures so_far { result ≤ 1 → (waiting : List (List ℕ)) → All (WaitsWith waiting) lists.new →
+        HaveSafeMerge number_tests waiting (map read_of lists.old) (map read_of lists.new) }
     ensures whole { result ≡ 0 → (all : List (List (List ℕ))) →
         map (known_of B.remaining) lists.old ≡ map Some all → map read_of lists.new ≡ all }
     ensures alone { result ≡ 0 → (lines : List (List ℕ)) → map read_of lists.old ≡ [] ∷ [] →
-        map (known_of B.remaining) lists.old ≡ Some lines ∷ [] → SafeRun number_tests lines }
+        map (known_of B.remaining) lists.old ≡ Some lines ∷ [] → SafeRun number_tests [] lines }
 {
     match judge_lists(alloc, lists, progress, is_drawn, answer) {
         Ok(status) => status,
@@ -91,8 +94,9 @@ fn judge_lists<B: BufRead>(
     answer: &mut String,
 ) -> Result<u8, AllocError>
     ensures ended { IfOk result (λ status. status ≡ 0 → All IsReadToEnd lists.new) }
-    ensures safe { IfOk result (λ status. status ≤ 1 →
-        HaveSafeMerge number_tests (map read_of lists.old) (map read_of lists.new)) }
+    ensures safe { IfOk result (λ status. status ≤ 1 → (waiting : List (List ℕ)) →
+        All (WaitsWith waiting) lists.new →
+        HaveSafeMerge number_tests waiting (map read_of lists.old) (map read_of lists.new)) }
     ensures known { IfOk result (λ status. status ≤ 1 → KeepKnown B.remaining lists.old lists.new) }
 {
     traces_are_executions::<u64, u64, u64, Option<u64>>();
@@ -149,8 +153,8 @@ fn take_lines<B: BufRead>(
     judge: &mut Judge,
     mut progress: Progress,
 ) -> Result<(), (usize, Stop)>
-    ensures judged { OnOk result (JudgesSome number_tests first_line.now (map read_of lists.old)
-        (map read_of lists.new) judge.old judge.new) }
+    ensures judged { OnOk result
+        (JudgesSome number_tests first_line.now lists.old lists.new judge.old judge.new) }
     ensures known { OnOk result (KeepKnown B.remaining lists.old lists.new) }
 {
     let mut at = 0;
@@ -206,8 +210,8 @@ fn take_next<B: BufRead>(
     list: &mut Lines<B>,
     judge: &mut Judge,
 ) -> Result<bool, Stop>
-    ensures judged { OnOk result (JudgesNext number_tests first_line.now (read_of list.old)
-        (read_of list.new) judge.old judge.new) }
+    ensures judged { OnOk result
+        (JudgesNext number_tests first_line.now list.old list.new judge.old judge.new) }
     ensures known { OnOk result (KeepsLines B.remaining list.old.reader list.new.reader) }
 {
     if !list.has_next()? {
@@ -240,8 +244,8 @@ fn take_line(
     judge: &mut Judge,
 ) -> Result<(), Fault>
     ensures taken { OnOk result (Judges number_tests first_line.now (line.now ∷ []) judge.old judge.new) }
-    ensures broken { IfErr result (λ fault. IsBroken fault →
-        Judges number_tests first_line.now [] judge.old judge.new) }
+    ensures broken { IfErr result (λ fault. IsBroken fault → JudgesBefore number_tests
+        (λ later. IsAmong line.now later) first_line.now [] judge.old judge.new) }
 {
     match judge.take(alloc, place, fills, line) {
         Ok(()) => Ok(()),

@@ -50,6 +50,7 @@ impl<B: BufRead> LineReader<B> {
         ensures pending { IfOk result (λ is_pending. self.new.is_pending ≡ is_pending) }
         ensures none_passed { IfOk result (λ _. lines_read self.new ≡ lines_read self.old) }
         ensures known { IfOk result (λ _. KeepsLines B.remaining self.old self.new) }
+        ensures waits { self.old.is_pending ≡ true → self.new ≡ self.old }
     {
         if !self.is_pending && !self.is_last {
             self.is_last = read_line(&mut self.input, &mut self.line)?;

@@ -1,9 +1,9 @@
 //! Judges a recorded run of a Raft cluster: one event a line, as JSON.
 #![tactic(auto)]
 
-ghost use Rattle.std.specs.Prelude.{◌≡◌, ◌≤◌, IfOk, map};
+ghost use Rattle.std.specs.Prelude.{◌≡◌, ◌≤◌, [], ℕ, List, IfOk, map};
 ghost use Rattle.std.specs.List.{All};
-ghost use Rattle.trace_judge.specs.Input.{IsReadToEnd, read_of};
+ghost use Rattle.trace_judge.specs.Input.{IsReadToEnd, WaitsWith, read_of};
 ghost use Rattle.trace_judge.specs.Lists.{HaveSafeMerge};
 ghost use Rattle.trace_judge.specs.Numbers.{number_tests};
 
@@ -134,8 +134,11 @@ fn lines_of(rt: &HostRuntime, source: Source, name: Option<String>) -> io::Resul
 /// status. If it is 0, the lists were read to their ends, and what was read is a safe run.
 fn judge_lists(rt: &HostRuntime, lists: &mut [SourceLines], is_drawn: bool) -> io::Result<u8>
     ensures ended { IfOk result (λ status. status ≡ 0 → All IsReadToEnd lists.new) }
-    ensures safe { IfOk result (λ status. status ≤ 1 →
-        HaveSafeMerge number_tests (map read_of lists.old) (map read_of lists.new)) }
+    ensures safe { IfOk result (λ status. status ≡ 0 →
+        HaveSafeMerge number_tests [] (map read_of lists.old) (map read_of lists.new)) }
+    ensures so_far { IfOk result (λ status. status ≤ 1 → (waiting : List (List ℕ)) →
+        All (WaitsWith waiting) lists.new →
+        HaveSafeMerge number_tests waiting (map read_of lists.old) (map read_of lists.new)) }
 {
     let mut answer = String::new(rt.alloc());
     let progress = Progress::on(rt.stderr());

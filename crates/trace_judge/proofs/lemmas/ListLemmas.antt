@@ -1,5 +1,5 @@
 -- Lines that a judge takes from several lists.
-use Rattle.std.specs.Prelude.{◌≡◌, ◌<◌, ℕ, true, if◌then◌else◌, List, [], ◌∷◌, ◌++◌, Option, Some, None, map, option_map, length, set, slice_get, zero, suc}
+use Rattle.std.specs.Prelude.{◌≡◌, ◌<◌, ℕ, true, if◌then◌else◌, List, [], ◌∷◌, ◌++◌, Option, Some, None, codes, map, option_map, length, set, slice_get, zero, suc}
 use Rattle.std.specs.Global.{Vec}
 use Rattle.std.specs.List.{All}
 use Rattle.std.proofs.Common.{refl, sym, ap, subst, ◌∙◌, inl, inr, append_assoc}
@@ -9,6 +9,9 @@ use Rattle.std.proofs.lemmas.Option.{get_or_from_slice_get, slice_get-get_or, sl
 use Rattle.trace_lines.specs.Lines.{lines}
 use Rattle.trace_lines.specs.Reader.{IsAtEnd, KeepsLines, lines_of, lines_read}
 use Rattle.trace_lines.specs.declared.reader.LineReader.{LineReader}
+use Rattle.serde_json.specs.Data.{Data}
+use Rattle.serde_json.specs.Read.{read}
+use Rattle.safety_laws.specs.Ranks.{IsAmong}
 use Rattle.safety_laws.specs.AppliedTrace.{AppliedTracesAreExecutions}
 use Rattle.safety_laws.specs.Trace.{AreExact, TermsHaveRanks, Tests, TraceEvent, TracesAreExecutions, are_allowed_by}
 use Rattle.trace_checker.specs.Checker.{configs_of, counting_of}
@@ -16,14 +19,16 @@ use Rattle.trace_checker.specs.Counted.{IsSafeBy, IsSafeWhen, are_all_allowed, t
 use Rattle.safety_laws.specs.declared.counting.ConfigsCount.{ConfigsCount}
 use Rattle.safety_laws.specs.declared.counting.ConfigsCount.TheVariants.{WhenAppended, WhenApplied}
 use Rattle.trace_checker.specs.declared.memberships.Memberships.{Memberships}
-use Rattle.trace_judge.specs.Inner.Judged.{Begins, HasJudged, Judges, JudgesNext, JudgesSome}
+use Rattle.trace_judge.specs.Fields.{IsNamed}
+use Rattle.trace_judge.specs.Inner.Judged.{Begins, HasJudged, Judges, JudgesBefore, JudgesNext, JudgesSome}
 use Rattle.trace_judge.specs.Inner.Table.{numbering}
-use Rattle.trace_judge.specs.Inner.Taken.{GoesOn, HasTaken, IsStarted, Refuses, SaysStartOf, Takes, tests_for}
-use Rattle.trace_judge.specs.Input.{IsReadToEnd, KeepKnown, known_of, read_of}
+use Rattle.trace_judge.specs.Inner.Taken.{GoesOn, HasTaken, IsStarted, Refuses, SaysStartOf, Takes, held_by, tests_for}
+use Rattle.trace_judge.specs.Input.{IsReadToEnd, KeepKnown, WaitsWith, known_of, read_of}
 use Rattle.trace_judge.specs.Lists.{HaveSafeMerge, IsMerge}
 use Rattle.trace_judge.specs.Run.{LeavesStartsOut, SafeRun, SayOneStart, SaysStart, and_lines}
 use Rattle.trace_judge.specs.declared.input.Lines.{Lines}
 use Rattle.trace_judge.specs.declared.judge.Judge.{Judge}
+use Rattle.trace_judge.proofs.lemmas.FillLemmas.{trace_without}
 use Rattle.trace_judge.proofs.lemmas.NameLemmas.{start_more}
 
 -- ---- lists that grow
@@ -167,64 +172,131 @@ module _ (tests : ConfigsCount → Memberships ℕ ℕ → Tests ℕ ℕ ℕ (Op
   -- a judge that takes a line has judged it
   pub judges_taken : (first_line line : List ℕ) (old new : Judge) → Takes tests line old new
       → Judges tests first_line (line ∷ []) old new
-  judges_taken first_line line old new takes judged has = record {
+  judges_taken first_line line old new takes later judged any has = record {
     starts = starts_still first_line old new takes.0 has.starts;
     kept = has.kept ++ line ∷ [];
     are_kept = leaves_more first_line judged has.kept (line ∷ []) (line ∷ []) has.are_kept (inr ([], refl, refl));
-    taken = subst (λ (l : List (List ℕ)). HasTaken tests l new) (sym (and_lines-append [] has.kept line))
-        (takes.1 (and_lines [] has.kept) has.taken);
+    taken = subst (λ (l : List (List ℕ)). HasTaken tests later l new) (sym (and_lines-append [] has.kept line))
+        (takes.1 later (and_lines [] has.kept) has.taken);
+  }
+
+  -- lines are taken before others also if one of these says the start
+  taken_without : (line : List ℕ) (d : Data) (later taken : List (List ℕ)) (judge : Judge) → read line ≡ Some d
+      → IsNamed (codes "started") d → HasTaken tests (line ∷ later) taken judge → HasTaken tests later taken judge
+  taken_without line d later taken judge reads named has = record {
+    trace = has.trace;
+    is_trace = trace_without (numbering judge.names) judge.first line d reads named later [] taken
+        (held_by tests judge) has.trace has.is_trace;
+    keeps = has.keeps;
   }
 
   -- a line that says the start again is judged without being taken
-  pub judges_start : (first_line line : List ℕ) (old new : Judge) → SayOneStart first_line line → Refuses tests old new
+  pub judges_start : (first_line line : List ℕ) (old new : Judge) → SayOneStart first_line line → Refuses tests line old new
       → Judges tests first_line (line ∷ []) old new
-  judges_start first_line line old new again refuses judged has = record {
-    starts = starts_still first_line old new refuses.0 has.starts;
-    kept = has.kept;
-    are_kept = subst (λ (l : List (List ℕ)). LeavesStartsOut first_line (judged ++ line ∷ []) l) (append-nil has.kept)
-        (leaves_more first_line judged has.kept (line ∷ []) [] has.are_kept (inl (again, refl)));
-    taken = refuses.1 (and_lines [] has.kept) has.taken;
-  }
+  judges_start first_line line old new again refuses later judged any has =
+      let start = again.2.4 in
+      record {
+        starts = starts_still first_line old new refuses.0 has.starts;
+        kept = has.kept;
+        are_kept = subst (λ (l : List (List ℕ)). LeavesStartsOut first_line (judged ++ line ∷ []) l) (append-nil has.kept)
+            (leaves_more first_line judged has.kept (line ∷ []) [] has.are_kept (inl (again, refl)));
+        taken = taken_without line start.0 later (and_lines [] has.kept) new start.1 start.2
+            (refuses.1 (line ∷ later) (and_lines [] has.kept) (inl refl) has.taken);
+      }
 
-  -- a judge that refuses a line has judged what it had
-  pub judges_none : (first_line : List ℕ) (old new : Judge) → Refuses tests old new → Judges tests first_line [] old new
-  judges_none first_line old new refuses judged has =
-      subst (λ (l : List (List ℕ)). HasJudged tests first_line l new) (sym (append-nil judged)) record {
+  -- a judge that refuses a line, which comes later, has judged what it had
+  pub judges_none : (first_line line : List ℕ) (old new : Judge) → Refuses tests line old new
+      → JudgesBefore tests (λ later. IsAmong line later) first_line [] old new
+  judges_none first_line line old new refuses later judged among has =
+      subst (λ (l : List (List ℕ)). HasJudged tests first_line later l new) (sym (append-nil judged)) record {
         starts = starts_still first_line old new refuses.0 has.starts;
         kept = has.kept;
         are_kept = has.are_kept;
-        taken = refuses.1 (and_lines [] has.kept) has.taken;
+        taken = refuses.1 later (and_lines [] has.kept) among has.taken;
       }
 
   -- nothing is judged
-  pub judges_same : (first_line : List ℕ) (judge : Judge) → Judges tests first_line [] judge judge
-  judges_same first_line judge judged has =
-      subst (λ (l : List (List ℕ)). HasJudged tests first_line l judge) (sym (append-nil judged)) has
+  pub judges_same : (P : List (List ℕ) → Type 0) (first_line : List ℕ) (judge : Judge)
+      → JudgesBefore tests P first_line [] judge judge
+  judges_same P first_line judge later judged any has =
+      subst (λ (l : List (List ℕ)). HasJudged tests first_line later l judge) (sym (append-nil judged)) has
 
-  pub judges_no_more : (first_line : List ℕ) (lists : List (List (List ℕ))) (judge : Judge)
+  pub judges_no_more : {B : Type 0} (first_line : List ℕ) (lists : List (Lines B)) (judge : Judge)
       → JudgesSome tests first_line lists lists judge judge
-  judges_no_more first_line lists judge = ([], refl, judges_same first_line judge)
+  judges_no_more first_line lists judge =
+      ([], refl, judges_same (λ later. All (WaitsWith later) lists) first_line judge)
 
-  -- a judge judges no line of a list
-  pub judges_no_next : (first_line : List ℕ) (list grown : List (List ℕ)) (old new : Judge) → grown ≡ list
-      → Judges tests first_line [] old new → JudgesNext tests first_line list grown old new
-  judges_no_next first_line list grown old new same judges = ([], same ∙ sym (append-nil list), judges)
+  -- a judge judges no line of a list, which waits with the same line as before, if it has waited
+  pub judges_no_next : {B : Type 0} (first_line : List ℕ) (list grown : Lines B) (old new : Judge)
+      → read_of grown ≡ read_of list → (list.reader.is_pending ≡ true → grown.reader ≡ list.reader)
+      → JudgesBefore tests (λ later. WaitsWith later grown) first_line [] old new
+      → JudgesNext tests first_line list grown old new
+  judges_no_next first_line list grown old new same waits judges = (
+    [],
+    same ∙ sym (append-nil (read_of list)),
+    λ later with_line is.
+        let kept = waits is in
+        subst (λ r. IsAmong r.line.items later) kept (with_line (ap (λ r. r.is_pending) kept ∙ is)),
+    judges,
+  )
+
+  -- a list that has passed a line waited with this one, if it waited
+  pub passed_line : {B : Type 0} (list read : Lines B) (later : List (List ℕ))
+      → (list.reader.is_pending ≡ true → read.reader ≡ list.reader)
+      → WaitsWith (read.reader.line.items ∷ later) list
+  passed_line list read later waits is =
+      inl (ap (λ r. r.line.items) (sym (waits is)))
+
+  -- lines are among others also with more of them
+  among_more : (some later : List (List ℕ)) (x : List ℕ) → IsAmong x later → IsAmong x (some ++ later)
+  among_more [] later x is = is
+  among_more (y ∷ some) later x is = inr (among_more some later x is)
+
+  more_waiting : {B : Type 0} (some later : List (List ℕ)) (xs : List (Lines B)) → All (WaitsWith later) xs
+      → All (WaitsWith (some ++ later)) xs
+  more_waiting some later [] all = All-nil (WaitsWith (some ++ later))
+  more_waiting some later (z ∷ xs) all =
+      All-cons (WaitsWith (some ++ later)) z xs
+      (λ is. among_more some later z.reader.line.items (All-head (WaitsWith later) z xs all is))
+      (more_waiting some later xs (All-tail (WaitsWith later) z xs all))
+
+  grown_waits : {B : Type 0} (later : List (List ℕ)) (xs : List (Lines B)) (i : ℕ) (x y : Lines B)
+      → slice_get xs i ≡ Some x → All (WaitsWith later) (set xs i y) → WaitsWith later y
+  grown_waits later [] i x y at all = cc
+  grown_waits later (z ∷ xs) zero x y at all = All-head (WaitsWith later) y xs all
+  grown_waits later (z ∷ xs) (suc i) x y at all =
+      grown_waits later xs i x y at (All-tail (WaitsWith later) z (set xs i y) all)
+
+  -- if lists wait with these lines after one of them has grown, they waited with these or with new lines
+  waited_with : {B : Type 0} (some later : List (List ℕ)) (xs : List (Lines B)) (i : ℕ) (x y : Lines B)
+      → slice_get xs i ≡ Some x → WaitsWith (some ++ later) x → All (WaitsWith later) (set xs i y)
+      → All (WaitsWith (some ++ later)) xs
+  waited_with some later [] i x y at here all = All-nil (WaitsWith (some ++ later))
+  waited_with some later (z ∷ xs) zero x y at here all =
+      let same : x ≡ z = cc in
+      All-cons (WaitsWith (some ++ later)) z xs (subst (λ l. WaitsWith (some ++ later) l) same here)
+      (more_waiting some later xs (All-tail (WaitsWith later) y xs all))
+  waited_with some later (z ∷ xs) (suc i) x y at here all =
+      All-cons (WaitsWith (some ++ later)) z xs
+      (λ is. among_more some later z.reader.line.items (All-head (WaitsWith later) z (set xs i y) all is))
+      (waited_with some later xs i x y at here (All-tail (WaitsWith later) z (set xs i y) all))
 
   -- after some lines of lists, a judge judges some lines of one list
-  pub judges_more : {X : Type 0} (read : X → List (List ℕ)) (first_line : List ℕ) (lists : List (List (List ℕ)))
-      (xs : List X) (i : ℕ) (x y : X) (old now new : Judge)
-      → slice_get xs i ≡ Some x → JudgesSome tests first_line lists (map read xs) old now
-      → JudgesNext tests first_line (read x) (read y) now new
-      → JudgesSome tests first_line lists (map read (set xs i y)) old new
-  judges_more read first_line lists xs i x y old now new at so_far next = (
+  pub judges_more : {B : Type 0} (first_line : List ℕ) (lists xs : List (Lines B)) (i : ℕ) (x y : Lines B)
+      (old now new : Judge) → slice_get xs i ≡ Some x → JudgesSome tests first_line lists xs old now
+      → JudgesNext tests first_line x y now new → JudgesSome tests first_line lists (set xs i y) old new
+  judges_more first_line lists xs i x y old now new at so_far next = (
     so_far.0 ++ next.0,
-    subst (λ (l : List (List (List ℕ))). IsMerge lists (so_far.0 ++ next.0) l) (sym (map-set read xs i y))
-        (merge_more lists (map read xs) (set (map read xs) i (read y)) so_far.0 next.0 so_far.1
-        (subst (λ (l : List (List ℕ)). IsMerge (map read xs) next.0 (set (map read xs) i l)) (sym next.1)
-        (merge_one (map read xs) i (read x) next.0 (slice_get-map read xs i ∙ ap (option_map read) at)))),
-    λ judged has.
-        subst (λ (l : List (List ℕ)). HasJudged tests first_line l new) (append_assoc judged so_far.0 next.0)
-        (next.2 (judged ++ so_far.0) (so_far.2 judged has)),
+    subst (λ (l : List (List (List ℕ))). IsMerge (map read_of lists) (so_far.0 ++ next.0) l) (sym (map-set read_of xs i y))
+        (merge_more (map read_of lists) (map read_of xs) (set (map read_of xs) i (read_of y)) so_far.0 next.0 so_far.1
+        (subst (λ (l : List (List ℕ)). IsMerge (map read_of xs) next.0 (set (map read_of xs) i l)) (sym next.1)
+        (merge_one (map read_of xs) i (read_of x) next.0 (slice_get-map read_of xs i ∙ ap (option_map read_of) at)))),
+    λ later judged all has.
+        let grown : WaitsWith later y = grown_waits later xs i x y at all in
+        subst (λ (l : List (List ℕ)). HasJudged tests first_line later l new) (append_assoc judged so_far.0 next.0)
+        (next.3 later (judged ++ so_far.0) grown
+        (so_far.2 (next.0 ++ later) judged (waited_with next.0 later xs i x y at (next.2 later grown) all)
+        (subst (λ (l : List (List ℕ)). HasJudged tests first_line l judged old) (append_assoc so_far.0 next.0 later) has))),
   )
 
   -- a judge begins with the first line of the list at a place
@@ -235,15 +307,15 @@ module _ (tests : ConfigsCount → Memberships ℕ ℕ → Tests ℕ ℕ ℕ (Op
     subst (λ (l : List (List (List ℕ))). IsMerge (map read xs) (line ∷ []) l) (sym (map-set read xs i y))
         (subst (λ (l : List (List ℕ)). IsMerge (map read xs) (line ∷ []) (set (map read xs) i l)) (sym grows)
         (merge_one (map read xs) i (read x) (line ∷ []) (slice_get-map read xs i ∙ ap (option_map read) at))),
-    record { starts = started.0; kept = []; are_kept = refl; taken = started.1 },
+    λ later. record { starts = started.0; kept = []; are_kept = refl; taken = started.1 later },
   )
 
   -- lines that a judge has judged are a safe run
   safe_run : ((w : ConfigsCount) (m : Memberships ℕ ℕ) (t u : ℕ) → (tests w m).rank t ≡ (tests w m).rank u → t ≡ u)
       → TracesAreExecutions ℕ ℕ ℕ (Option ℕ) → AppliedTracesAreExecutions ℕ ℕ ℕ (Option ℕ) → (first_line : List ℕ)
-      (later : List (List ℕ)) (judge : Judge) → HasJudged tests first_line later judge
-      → SafeRun tests (first_line ∷ later)
-  safe_run ranks law applied_law first_line later judge has = record {
+      (waiting later : List (List ℕ)) (judge : Judge) → HasJudged tests first_line waiting later judge
+      → SafeRun tests waiting (first_line ∷ later)
+  safe_run ranks law applied_law first_line waiting later judge has = record {
     first_line = first_line;
     later = later;
     lines_are = refl;
@@ -264,20 +336,30 @@ module _ (tests : ConfigsCount → Memberships ℕ ℕ → Tests ℕ ℕ ℕ (Op
   }
 
   -- the lines that a judge has judged are a safe run
-  pub have_safe_merge : ((w : ConfigsCount) (m : Memberships ℕ ℕ) (t u : ℕ) → (tests w m).rank t ≡ (tests w m).rank u → t ≡ u)
+  pub have_safe_merge : {B : Type 0}
+      → ((w : ConfigsCount) (m : Memberships ℕ ℕ) (t u : ℕ) → (tests w m).rank t ≡ (tests w m).rank u → t ≡ u)
       → TracesAreExecutions ℕ ℕ ℕ (Option ℕ) → AppliedTracesAreExecutions ℕ ℕ ℕ (Option ℕ)
-      → (lists begun grown : List (List (List ℕ))) (first_line : List ℕ) (old new : Judge)
-      → Begins tests lists begun first_line old → JudgesSome tests first_line begun grown old new
-      → HaveSafeMerge tests lists grown
-  have_safe_merge ranks law applied_law lists begun grown first_line old new one others = record {
+      → (lists begun grown : List (Lines B)) (first_line : List ℕ) (old new : Judge)
+      → Begins tests (map read_of lists) (map read_of begun) first_line old → JudgesSome tests first_line begun grown old new
+      → (waiting : List (List ℕ)) → All (WaitsWith waiting) grown
+      → HaveSafeMerge tests waiting (map read_of lists) (map read_of grown)
+  have_safe_merge ranks law applied_law lists begun grown first_line old new one others waiting all = record {
     merged = first_line ∷ others.0;
-    is_merge = merge_more lists begun grown (first_line ∷ []) others.0 one.0 others.1;
-    is_safe = safe_run ranks law applied_law first_line others.0 new (others.2 [] one.1);
+    is_merge = merge_more (map read_of lists) (map read_of begun) (map read_of grown) (first_line ∷ []) others.0 one.0 others.1;
+    is_safe = safe_run ranks law applied_law first_line waiting others.0 new
+        (others.2 waiting [] all (one.1 (others.0 ++ waiting)));
   }
 
+  -- a list that was read to its end waits with no line
+  pub none_wait : {B : Type 0} (xs : List (Lines B)) → All IsReadToEnd xs → All (WaitsWith []) xs
+  none_wait [] all = All-nil (WaitsWith [])
+  none_wait (x ∷ xs) all =
+      let ended = All-head IsReadToEnd x xs all in
+      All-cons (WaitsWith []) x xs (λ is. let not = ended.0 in cc) (none_wait xs (All-tail IsReadToEnd x xs all))
+
   -- one list is safe in its own order
-  pub safe_alone : (list : List (List ℕ)) → HaveSafeMerge tests ([] ∷ []) (list ∷ []) → SafeRun tests list
+  pub safe_alone : (list : List (List ℕ)) → HaveSafeMerge tests [] ([] ∷ []) (list ∷ []) → SafeRun tests [] list
   safe_alone list are =
       let grown : list ∷ [] ≡ are.merged ∷ [] = merge_alone [] are.merged (list ∷ []) are.is_merge in
       let same : are.merged ≡ list = cc in
-      subst (λ (l : List (List ℕ)). SafeRun tests l) same are.is_safe
+      subst (λ (l : List (List ℕ)). SafeRun tests [] l) same are.is_safe

@@ -1,5 +1,5 @@
 -- Names that get numbers.
-use Rattle.std.specs.Prelude.{◌≡◌, ◌⊎◌, ◌+◌, ◌^◌, ◌<◌, ◌≤◌, ℕ, Bool, true, false, List, [], ◌∷◌, Option, Some, None, IfSome, String, codes, is_some, nat_eq, nat_lt}
+use Rattle.std.specs.Prelude.{◌≡◌, ◌⊎◌, ◌+◌, ◌^◌, ◌<◌, ◌≤◌, ℕ, Bool, true, false, List, [], ◌∷◌, Option, Some, None, IfSome, String, codes, is_some, length, nat_eq, nat_lt}
 use Rattle.std.specs.Global.{Global, Vec}
 use Rattle.std.specs.HashMap.{HashMap, Updates, UpdatesBy, get, get_by_text}
 use Rattle.std.specs.Map.{update}
@@ -15,6 +15,7 @@ use Rattle.std.proofs.lemmas.Slice.Eq.{bytes_eq-Decides}
 use Rattle.serde_json.specs.Data.{Data, Items, no_items, item}
 use Rattle.safety_laws.specs.Log.{Entry}
 use Rattle.safety_laws.specs.Trace.{TraceEvent, Campaigned, Granted, Appended, Acked, Restarted, Wrote, Committed, Applied}
+use Rattle.trace_judge.specs.Filled.{FillsIn, IsFilledIn, IsFilledInFor, IsRestoredFor}
 use Rattle.trace_judge.specs.Fields.{HasConfigs, IsConfig, IsEntry, IsId, SayEach}
 use Rattle.trace_judge.specs.Inner.Table.{Extends, IsTable, Learns, numbering}
 use Rattle.trace_judge.specs.Line.{Says, SaysEntries}
@@ -22,6 +23,7 @@ use Rattle.trace_judge.specs.Names.{HasNumber, IsName, Name, Number, Numbering, 
 use Rattle.trace_judge.specs.Run.{AddsLine, Held, IsTraceOf, SaysMembership, SaysStart}
 use Rattle.safety_laws.specs.declared.counting.ConfigsCount.{ConfigsCount}
 use Rattle.trace_judge.specs.declared.names.Names.{Names}
+use Rattle.trace_judge.proofs.lemmas.FillLemmas.{adds_weaker}
 
 -- ---- a longer table
 
@@ -206,14 +208,51 @@ module _ (old new : Numbering) (more : Extends old new) where
       → AddsLine new first line known before held after
   adds_line first line known before held after (inl h) = inl h
   adds_line first line known before held after (inr h) =
-      inr (h.0, h.1, h.2, h.3, says first h.0 h.1 h.4, says_membership h.0 h.1 h.2 h.5, h.6, h.7)
+      inr (h.0, h.1, h.2, h.3, says first h.0 h.1 h.4, h.5, says_membership h.0 h.1 h.2 h.6, h.7, h.8)
+
+  -- an event is filled in for a line also with more numbers
+  pub filled_for : (first : ℕ) (d : Data) (es : List (TraceEvent ℕ ℕ ℕ)) (e : TraceEvent ℕ ℕ ℕ)
+      → IsFilledInFor old first d es e → IsFilledInFor new first d es e
+  filled_for first d es (Campaigned s t) h = h
+  filled_for first d es (Granted s t c) h = h
+  filled_for first d es (Appended s t c n sent) h = h
+  filled_for first d es (Acked s t c n) h = says first d (Applied s t c n) h
+  filled_for first d es (Restarted s n) h = h
+  filled_for first d es (Wrote c t e) h = h
+  filled_for first d es (Committed c t n m) h = (h.0, h.1, says first d (Applied h.0 t c h.1) h.2, h.3)
+  filled_for first d es (Applied s t c n) h = h
+
+  pub restored_for : (first : ℕ) (d : Data) (es : List (TraceEvent ℕ ℕ ℕ)) (e : TraceEvent ℕ ℕ ℕ)
+      → IsRestoredFor old first d es e → IsRestoredFor new first d es e
+  restored_for first d es (Campaigned s t) h = h
+  restored_for first d es (Granted s t c) h = h
+  restored_for first d es (Appended s t c n sent) h = (says first d (Restarted s (n + length sent)) h.0, h.1, h.2)
+  restored_for first d es (Acked s t c n) h = h
+  restored_for first d es (Restarted s n) h = h
+  restored_for first d es (Wrote c t e) h = h
+  restored_for first d es (Committed c t n m) h = h
+  restored_for first d es (Applied s t c n) h = h
+
+  filled : (first : ℕ) (lines : List (List ℕ)) (es : List (TraceEvent ℕ ℕ ℕ)) (e : TraceEvent ℕ ℕ ℕ)
+      → IsFilledIn old first lines es e → IsFilledIn new first lines es e
+  filled first lines es e (inl h) = inl (h.0, h.1, h.2, h.3, filled_for first h.1 es e h.4)
+  filled first lines es e (inr h) = inr (h.0, h.1, h.2, h.3, h.4, restored_for first h.2 es e h.5)
+
+  fills : (first : ℕ) (lines : List (List ℕ)) (before after : List (TraceEvent ℕ ℕ ℕ))
+      → FillsIn old first lines before after → FillsIn new first lines before after
+  fills first lines before after h =
+      adds_weaker (IsFilledIn old first lines) (IsFilledIn new first lines) (filled first lines) before after h
 
   -- the trace of lines stays so with more numbers
-  pub trace_more : (first : ℕ) (taken : List (List ℕ)) (held : List Held) (es : List (TraceEvent ℕ ℕ ℕ))
-      → IsTraceOf old first taken held es → IsTraceOf new first taken held es
-  trace_more first [] held es h = h
-  trace_more first (line ∷ taken) held es h =
-      (h.0, h.1, trace_more first taken h.0 h.1 h.2, (h.3.0, adds_line first line h.0 h.1 held h.3.0 h.3.1, h.3.2))
+  pub trace_more : (first : ℕ) (later taken : List (List ℕ)) (held : List Held) (es : List (TraceEvent ℕ ℕ ℕ))
+      → IsTraceOf old first later taken held es → IsTraceOf new first later taken held es
+  trace_more first later [] held es h = (h.0, fills first later [] es h.1)
+  trace_more first later (line ∷ taken) held es h = (
+    h.0,
+    h.1,
+    trace_more first (line ∷ later) taken h.0 h.1 h.2,
+    (h.3.0, adds_line first line h.0 h.1 held h.3.0 h.3.1, fills first later h.3.0 es h.3.2),
+  )
 
   -- what the first line says stays so with more numbers
   pub start_more : (line : List ℕ) (configs : List (Vec ℕ)) (first : ℕ) (counting : ConfigsCount)

@@ -1,7 +1,6 @@
 -- Lines that a judge takes.
-use Rattle.std.specs.Prelude.{◌≡◌, ◌<◌, ℕ, length, get_or, Bool, List, [], ◌∷◌, ◌++◌, Option, Some, None, Result, Ok, Err, IfErr}
+use Rattle.std.specs.Prelude.{◌≡◌, ◌<◌, ℕ, length, get_or, Bool, List, [], ◌∷◌, ◌++◌, Option, Some, None, Result, Ok, Err, IfErr, IfOk, OnOk}
 use Rattle.std.proofs.Common.{refl, sym, ap, subst, ◌∙◌, inl, inr, append_assoc, arith, zero, suc}
-use Rattle.std.proofs.lemmas.List.Elements.{All-append, All-cons, All-nil}
 use Rattle.std.specs.Global.{Vec}
 use Rattle.serde_json.specs.Data.{Data}
 use Rattle.serde_json.specs.Read.{read}
@@ -11,23 +10,30 @@ use Rattle.safety_laws.specs.Ranks.{IsAmong}
 use Rattle.safety_laws.specs.declared.counting.ConfigsCount.{ConfigsCount}
 use Rattle.trace_checker.specs.declared.memberships.Memberships.{Memberships}
 use Rattle.trace_judge.specs.Fields.{HasConfigs}
+use Rattle.trace_judge.specs.Filled.{AddsEach, FillsIn, IsFilledIn, IsFilledInFor, IsRestoredFor}
 use Rattle.trace_judge.specs.Inner.Table.{IsTable, Learns, numbering}
-use Rattle.trace_judge.specs.Inner.Taken.{Fills, GoesOn, IsStarted, KeepsMore, KeepsTrace, Refuses, Stays, Takes, TakesEvent, TakesSaid, held_by, tests_for}
+use Rattle.trace_judge.specs.Inner.Taken.{FillsBy, FillsFor, GoesOn, HasTaken, IsStarted, KeepsMore, KeepsTrace, Refuses, RestoresFor, Stays, Takes, TakesEvent, TakesSaid, held_by, tests_for}
 use Rattle.trace_judge.specs.Inner.Votes.{AreVotesIn}
 use Rattle.trace_judge.specs.Line.{Says}
 use Rattle.trace_judge.specs.Names.{Numbering}
-use Rattle.trace_judge.specs.Run.{Adds, AddsLine, AddsMembership, FillsIn, Held, IsFilledIn, IsTraceOf, SaysMembership, SaysStart}
+use Rattle.trace_judge.specs.Run.{Adds, AddsLine, AddsMembership, Held, IsTraceOf, SaysMembership, SaysStart}
 use Rattle.trace_judge.specs.declared.chart.Chart.{Chart}
 use Rattle.trace_judge.specs.declared.counts.Counts.{Counts}
 use Rattle.trace_judge.specs.declared.judge.Judge.{Judge}
 use Rattle.trace_judge.specs.declared.names.Names.{Names}
-use Rattle.trace_judge.proofs.lemmas.NameLemmas.{trace_more}
+use Rattle.trace_judge.proofs.lemmas.FillLemmas.{adds_both, adds_none, adds_weaker}
+use Rattle.trace_judge.proofs.lemmas.NameLemmas.{filled_for, restored_for, trace_more}
 use Rattle.trace_judge.proofs.lemmas.VoteLemmas.{no_votes_in}
 
 -- what holds of each error holds of the one that is returned, if there is one
 pub whatever_err : {T E : Type 0} → (r : Result T E) (P : E → Type 0) → ((e : E) → P e) → IfErr r P
 whatever_err (Ok x) P h = tt
 whatever_err (Err e) P h = h e
+
+-- what follows for each value follows for the one that is returned, if there is one
+pub ok_then : {T E P : Type 0} → (r : Result T E) (Q : T → Type 0) → ((x : T) → P → Q x) → OnOk r P → IfOk r Q
+ok_then (Ok x) Q h p = h x p
+ok_then (Err e) Q h p = tt
 
 -- an item of a list is among them
 pub among_at : {X : Type 0} (xs : List X) (i : ℕ) (x : X) → i < length xs → x ≡ get_or xs i x → IsAmong x xs
@@ -50,27 +56,23 @@ says_same number_of d (Applied s t c m) n a b same says = says
 
 -- ---- events that are filled in
 
-pub fills_none : (es : List (TraceEvent ℕ ℕ ℕ)) → FillsIn es es
-fills_none es = ([], All-nil IsFilledIn, refl)
-
-pub fills_more : (before es after : List (TraceEvent ℕ ℕ ℕ)) → FillsIn before es → FillsIn es after
-    → FillsIn before after
-fills_more before es after one two = (
-  two.0 ++ one.0,
-  All-append IsFilledIn two.0 one.0 two.1 one.1,
-  two.2 ∙ ap (λ (l : List (TraceEvent ℕ ℕ ℕ)). two.0 ++ l) one.2 ∙ sym (append_assoc two.0 one.0 before),
+trace_fills : (number_of : Numbering) (first : ℕ) (later taken : List (List ℕ)) (held : List Held)
+    (es after : List (TraceEvent ℕ ℕ ℕ)) → IsTraceOf number_of first later taken held es
+    → FillsIn number_of first later es after → IsTraceOf number_of first later taken held after
+trace_fills number_of first later [] held es after is fills =
+    (is.0, adds_both (IsFilledIn number_of first later) [] es after is.1 fills)
+trace_fills number_of first later (line ∷ taken) held es after is fills = (
+  is.0,
+  is.1,
+  is.2,
+  (is.3.0, is.3.1, adds_both (IsFilledIn number_of first later) is.3.0 es after is.3.2 fills),
 )
 
-pub fills_one : (e : TraceEvent ℕ ℕ ℕ) (es : List (TraceEvent ℕ ℕ ℕ)) → IsFilledIn e → FillsIn es (e ∷ es)
-fills_one e es may = (e ∷ [], All-cons IsFilledIn e [] may (All-nil IsFilledIn), refl)
-
--- events that are filled in after a trace of lines are part of a trace of these lines
-pub trace_fills : (number_of : Numbering) (first : ℕ) (taken : List (List ℕ)) (held : List Held)
-    (es after : List (TraceEvent ℕ ℕ ℕ)) → IsTraceOf number_of first taken held es → FillsIn es after
-    → IsTraceOf number_of first taken held after
-trace_fills number_of first [] held es after is fills = (is.0, fills_more [] es after is.1 fills)
-trace_fills number_of first (line ∷ taken) held es after is fills =
-    (is.0, is.1, is.2, (is.3.0, is.3.1, fills_more is.3.0 es after is.3.2 fills))
+-- what is filled in for a line is filled in for one of the lines that come later
+filled_in_later : (number_of : Numbering) (first : ℕ) (line : List ℕ) (d : Data) (later : List (List ℕ))
+    → read line ≡ Some d → IsAmong line later → (es : List (TraceEvent ℕ ℕ ℕ)) (e : TraceEvent ℕ ℕ ℕ)
+    → IsFilledInFor number_of first d es e → IsFilledIn number_of first later es e
+filled_in_later number_of first line d later reads among es e h = inl (line, d, among, reads, h)
 
 -- votes that are in a trace are in it once events are filled in
 pub votes_filled : (votes : List (ℕ × (ℕ × ℕ))) (filled es : List (TraceEvent ℕ ℕ ℕ)) → AreVotesIn votes es
@@ -104,9 +106,12 @@ module _ (tests : ConfigsCount → Memberships ℕ ℕ → Tests ℕ ℕ ℕ (Op
             (sym is)
             (subst (λ (w : ConfigsCount). SaysStart (numbering judge.names) line members.initial.items judge.first w) (sym counts)
             says),
-        record {
+        λ later. record {
           trace = [];
-          is_trace = (ap (λ (m : Memberships ℕ ℕ). m.held.items) is ∙ none, fills_none []);
+          is_trace = (
+            ap (λ (m : Memberships ℕ ℕ). m.held.items) is ∙ none,
+            adds_none (IsFilledIn (numbering judge.names) judge.first later) [],
+          );
           keeps = record {
             exact = subst (λ (k : Tests ℕ ℕ ℕ (Option ℕ)). AreExact k) same exact;
             table = table;
@@ -120,9 +125,18 @@ module _ (tests : ConfigsCount → Memberships ℕ ℕ → Tests ℕ ℕ ℕ (Op
   pub takes_empty : (line : List ℕ) (judge : Judge) → line ≡ [] → Takes tests line judge judge
   takes_empty line judge is = (
     (refl, refl, λ a n is. is, refl),
-    λ taken has. record {
+    λ later taken has. record {
       trace = has.trace;
-      is_trace = (held_by tests judge, has.trace, has.is_trace, (has.trace, inl (is, refl, refl), fills_none has.trace));
+      is_trace = (
+        held_by tests judge,
+        has.trace,
+        has.is_trace,
+        (
+          has.trace,
+          inl (is, refl, refl),
+          adds_none (IsFilledIn (numbering judge.names) judge.first later) has.trace,
+        ),
+      );
       keeps = has.keeps;
     },
   )
@@ -136,82 +150,161 @@ module _ (tests : ConfigsCount → Memberships ℕ ℕ → Tests ℕ ℕ ℕ (Op
   goes_still : (judge : Judge) → GoesOn tests judge judge
   goes_still judge = (refl, refl, λ a n is. is, refl)
 
-  pub fills_nothing : (judge : Judge) → Fills tests judge judge
-  fills_nothing judge = (goes_still judge, λ es keeps. (es, fills_none es, refl, keeps))
+  pub fills_nothing : (number_of : Numbering) (first : ℕ) (d : Data) (judge : Judge)
+      → FillsFor tests number_of first d judge judge
+  fills_nothing number_of first d judge =
+      (goes_still judge, λ es keeps. (es, adds_none (IsFilledInFor number_of first d) es, refl, keeps))
 
-  pub fills_both : (old mid new : Judge) → Fills tests old mid → Fills tests mid new → Fills tests old new
-  fills_both old mid new one two = (
+  pub fills_both : (number_of : Numbering) (first : ℕ) (d : Data) (old mid new : Judge)
+      → FillsFor tests number_of first d old mid → FillsFor tests number_of first d mid new
+      → FillsFor tests number_of first d old new
+  fills_both number_of first d old mid new one two = (
     goes_on old mid new one.0 two.0,
     λ es keeps.
-        let first = one.1 es keeps in
-        let next = two.1 first.0 first.3 in
-        (next.0, fills_more es first.0 next.0 first.1 next.1, next.2 ∙ first.2, next.3),
+        let some = one.1 es keeps in
+        let more = two.1 some.0 some.3 in (
+          more.0,
+          adds_both (IsFilledInFor number_of first d) es some.0 more.0 some.1 more.1,
+          more.2 ∙ some.2,
+          more.3,
+        ),
   )
 
-  pub fills_stays : (old mid new : Judge) → Fills tests old mid → Stays tests mid new → Fills tests old new
-  fills_stays old mid new one two = (
-    goes_on old mid new one.0 two.0,
+  -- a judge fills in events before or after it stays the same
+  pub fills_on : (P Q : List (TraceEvent ℕ ℕ ℕ) → TraceEvent ℕ ℕ ℕ → Type 0)
+      → ((es : List (TraceEvent ℕ ℕ ℕ)) (e : TraceEvent ℕ ℕ ℕ) → P es e → Q es e) → (old mid new : Judge)
+      → FillsBy tests P old mid → Stays tests mid new → FillsBy tests Q old new
+  fills_on P Q weaker old mid new fills stays = (
+    goes_on old mid new fills.0 stays.0,
     λ es keeps.
-        let first = one.1 es keeps in
-        let next = two.1 first.0 first.3 in (
+        let some = fills.1 es keeps in
+        let next = stays.1 some.0 some.3 in (
           next.0,
-          subst (λ (l : List (TraceEvent ℕ ℕ ℕ)). FillsIn es l) (sym next.1) first.1,
-          next.2 ∙ first.2,
+          subst (λ (l : List (TraceEvent ℕ ℕ ℕ)). AddsEach Q es l) (sym next.1) (adds_weaker P Q weaker es some.0 some.1),
+          next.2 ∙ some.2,
           next.3,
         ),
   )
 
-  -- the trace of lines stays so for a judge that goes on
-  trace_on : (old new : Judge) (taken : List (List ℕ)) (held : List Held) (es : List (TraceEvent ℕ ℕ ℕ))
-      → GoesOn tests old new → IsTraceOf (numbering old.names) old.first taken held es
-      → IsTraceOf (numbering new.names) new.first taken held es
-  trace_on old new taken held es goes is =
-      subst (λ (n : ℕ). IsTraceOf (numbering new.names) n taken held es) (sym goes.1)
-      (trace_more (numbering old.names) (numbering new.names) goes.2 old.first taken held es is)
+  pub fills_after : (P : List (TraceEvent ℕ ℕ ℕ) → TraceEvent ℕ ℕ ℕ → Type 0) (old mid new : Judge) → Stays tests old mid
+      → FillsBy tests P mid new → FillsBy tests P old new
+  fills_after P old mid new stays fills = (
+    goes_on old mid new stays.0 fills.0,
+    λ es keeps.
+        let some = stays.1 es keeps in
+        let next = fills.1 some.0 some.3 in (
+          next.0,
+          subst (λ (l : List (TraceEvent ℕ ℕ ℕ)). AddsEach P l next.0) some.1 next.1,
+          next.2 ∙ some.2,
+          next.3,
+        ),
+  )
 
-  -- a line is refused, once events are filled in
-  pub refuses : (old new : Judge) → Fills tests old new → Refuses tests old new
-  refuses old new fills = (
-    fills.0,
-    λ taken has.
-        let next = fills.1 has.trace has.keeps in
-        record {
-          trace = next.0;
-          is_trace = rw next.2 (trace_on old new taken (held_by tests old) next.0 fills.0
-              (trace_fills (numbering old.names) old.first taken (held_by tests old) has.trace next.0 has.is_trace next.1));
-          keeps = next.3;
-        },
+  pub stays_both : (old mid new : Judge) → Stays tests old mid → Stays tests mid new → Stays tests old new
+  stays_both old mid new one two = (
+    goes_on old mid new one.0 two.0,
+    λ es keeps.
+        let some = one.1 es keeps in
+        let next = two.1 some.0 some.3 in (next.0, next.1 ∙ some.1, next.2 ∙ some.2, next.3),
+  )
+
+  -- events that are filled in for a line are so after names have got numbers
+  filled_on : (old new : Judge) (d : Data) → GoesOn tests old new → (es : List (TraceEvent ℕ ℕ ℕ)) (e : TraceEvent ℕ ℕ ℕ)
+      → IsFilledInFor (numbering old.names) old.first d es e → IsFilledInFor (numbering new.names) new.first d es e
+  filled_on old new d goes es e h =
+      subst (λ (n : ℕ). IsFilledInFor (numbering new.names) n d es e) (sym goes.1)
+      (filled_for (numbering old.names) (numbering new.names) goes.2 old.first d es e h)
+
+  restored_on : (old new : Judge) (d : Data) → GoesOn tests old new → (es : List (TraceEvent ℕ ℕ ℕ))
+      (e : TraceEvent ℕ ℕ ℕ) → IsRestoredFor (numbering old.names) old.first d es e
+      → IsRestoredFor (numbering new.names) new.first d es e
+  restored_on old new d goes es e h =
+      subst (λ (n : ℕ). IsRestoredFor (numbering new.names) n d es e) (sym goes.1)
+      (restored_for (numbering old.names) (numbering new.names) goes.2 old.first d es e h)
+
+  -- the trace of lines stays so for a judge that goes on
+  trace_on : (old new : Judge) (later taken : List (List ℕ)) (held : List Held) (es : List (TraceEvent ℕ ℕ ℕ))
+      → GoesOn tests old new → IsTraceOf (numbering old.names) old.first later taken held es
+      → IsTraceOf (numbering new.names) new.first later taken held es
+  trace_on old new later taken held es goes is =
+      subst (λ (n : ℕ). IsTraceOf (numbering new.names) n later taken held es) (sym goes.1)
+      (trace_more (numbering old.names) (numbering new.names) goes.2 old.first later taken held es is)
+
+  -- a judge has taken the same lines once events are filled in for lines that come later
+  has_filled : (P : List (TraceEvent ℕ ℕ ℕ) → TraceEvent ℕ ℕ ℕ → Type 0) (old new : Judge) (later taken : List (List ℕ))
+      → ((es : List (TraceEvent ℕ ℕ ℕ)) (e : TraceEvent ℕ ℕ ℕ) → P es e
+      → IsFilledIn (numbering new.names) new.first later es e)
+      → FillsBy tests P old new → HasTaken tests later taken old → HasTaken tests later taken new
+  has_filled P old new later taken filled fills has =
+      let next = fills.1 has.trace has.keeps in
+      record {
+        trace = next.0;
+        is_trace = rw next.2 (trace_fills (numbering new.names) new.first later taken (held_by tests old) has.trace next.0
+            (trace_on old new later taken (held_by tests old) has.trace fills.0 has.is_trace)
+            (adds_weaker P (IsFilledIn (numbering new.names) new.first later) filled has.trace next.0 next.1));
+        keeps = next.3;
+      }
+
+  -- a line is refused, once events are filled in for it
+  pub refuses : (line : List ℕ) (d : Data) (old mid new : Judge) → read line ≡ Some d → Stays tests old mid
+      → FillsFor tests (numbering mid.names) mid.first d mid new → Refuses tests line old new
+  refuses line d old mid new reads stays fills = (
+    goes_on old mid new stays.0 fills.0,
+    λ later taken among has.
+        has_filled (IsFilledInFor (numbering mid.names) mid.first d) old new later taken
+        (λ es e h.
+        filled_in_later (numbering new.names) new.first line d later reads among es e (filled_on mid new d fills.0 es e h))
+        (fills_after (IsFilledInFor (numbering mid.names) mid.first d) old mid new stays fills) has,
   )
 
   pub stays_still : (judge : Judge) → Stays tests judge judge
   stays_still judge = (goes_still judge, λ es keeps. (es, refl, refl, keeps))
 
-  takes_event : (line : List ℕ) (old mid new : Judge) (d : Data) (e : TraceEvent ℕ ℕ ℕ) (m : Option Held)
-      → Fills tests old mid → read line ≡ Some d → Says (numbering mid.names) mid.first d e
-      → SaysMembership (numbering mid.names) d e m → TakesEvent tests e m mid new → Takes tests line old new
-  takes_event line old mid new d e m fills reads says_e says_m takes = (
+  -- a line is taken by taking the event that it says, once events are filled in
+  takes_said : (P : List (TraceEvent ℕ ℕ ℕ) → TraceEvent ℕ ℕ ℕ → Type 0) (line : List ℕ) (old mid new : Judge) (d : Data)
+      → ((later : List (List ℕ)) (es : List (TraceEvent ℕ ℕ ℕ)) (e : TraceEvent ℕ ℕ ℕ) → P es e
+      → IsFilledIn (numbering mid.names) mid.first (line ∷ later) es e)
+      → FillsBy tests P old mid → read line ≡ Some d → TakesSaid tests d mid new → Takes tests line old new
+  takes_said P line old mid new d filled fills reads (e, (m, says_e, fits, says_m, takes)) = (
     goes_on old mid new fills.0 takes.0,
-    λ taken has.
-        let before = fills.1 has.trace has.keeps in
-        let next = takes.1 before.0 before.3 in
-        let so_far : IsTraceOf (numbering mid.names) mid.first taken (held_by tests mid) before.0 =
-        rw before.2 (trace_on old mid taken (held_by tests old) before.0 fills.0
-        (trace_fills (numbering old.names) old.first taken (held_by tests old) has.trace before.0 has.is_trace before.1)) in
-        let added : AddsLine (numbering mid.names) mid.first line (held_by tests mid) before.0 (held_by tests new) next.0 =
-        inr (d, e, m, reads, says_e, says_m, next.2, next.1) in
+    λ later taken has.
+        let before = has_filled P old mid (line ∷ later) taken (filled later) fills has in
+        let next = takes.1 before.trace before.keeps in
+        let added : AddsLine (numbering mid.names) mid.first line (held_by tests mid) before.trace (held_by tests new) next.0 =
+        inr (d, e, m, reads, says_e, fits before.trace before.keeps, says_m, next.2, next.1) in
         record {
           trace = next.0;
-          is_trace = trace_on mid new (line ∷ taken) (held_by tests new) next.0 takes.0
-              (held_by tests mid, before.0, so_far, (next.0, added, fills_none next.0));
+          is_trace = trace_on mid new later (line ∷ taken) (held_by tests new) next.0 takes.0 (
+            held_by tests mid,
+            before.trace,
+            before.is_trace,
+            (next.0, added, adds_none (IsFilledIn (numbering mid.names) mid.first later) next.0),
+          );
           keeps = next.3;
         },
   )
 
-  -- a line is taken by taking the event that it says, once events are filled in
-  pub takes_line : (line : List ℕ) (old mid new : Judge) (d : Data) → Fills tests old mid → read line ≡ Some d
-      → TakesSaid tests d mid new → Takes tests line old new
-  takes_line line old mid new d fills reads said =
-      takes_event line old mid new d said.0 said.1.0 fills reads said.1.1 said.1.2 said.1.3
+  -- a line is taken once events are filled in for it
+  pub takes_line : (line : List ℕ) (d : Data) (old start mid new : Judge) → read line ≡ Some d → Stays tests old start
+      → FillsFor tests (numbering start.names) start.first d start mid → TakesSaid tests d mid new
+      → Takes tests line old new
+  takes_line line d old start mid new reads stays fills said =
+      let P = IsFilledInFor (numbering start.names) start.first d in
+      takes_said P line old mid new d
+      (λ later es e h.
+      filled_in_later (numbering mid.names) mid.first line d (line ∷ later) reads (inl refl) es e
+      (filled_on start mid d fills.0 es e h))
+      (fills_after P old start mid stays fills) reads said
+
+  -- a line of a server that restarts is taken once entries are filled in that it has read from its disk
+  pub takes_restored : (line : List ℕ) (d : Data) (old start mid new : Judge) → read line ≡ Some d → Stays tests old start
+      → RestoresFor tests (numbering start.names) start.first d start mid → TakesSaid tests d mid new
+      → Takes tests line old new
+  takes_restored line d old start mid new reads stays fills said =
+      let P = IsRestoredFor (numbering start.names) start.first d in
+      takes_said P line old mid new d
+      (λ later es e h. inr (line, later, d, refl, reads, restored_on start mid d fills.0 es e h))
+      (fills_after P old start mid stays fills) reads said
 
   -- ---- events that the checker is asked for
 
@@ -326,13 +419,6 @@ module _ (tests : ConfigsCount → Memberships ℕ ℕ → Tests ℕ ℕ ℕ (Op
       record { exact = keeps.exact; table = learns.1 keeps.table; keeps = keeps.keeps; votes = keeps.votes },
     ),
   )
-
-  -- events are filled in after names have got numbers
-  pub fills_named : (old : Judge) (names : Names) (chart : Chart) (new : Judge) → Learns old.names names
-      → Fills tests (record old { names = names; chart = chart }) new → Fills tests old new
-  fills_named old names chart new learns fills =
-      let mid : Judge = record old { names = names; chart = chart } in
-      fills_both old mid new (fills_stays old old mid (fills_nothing old) (stays_named old names chart learns)) fills
 
   -- a judge takes an event once it has refused another one
   pub takes_after : (old mid new : Judge) (e : TraceEvent ℕ ℕ ℕ) (m : Option Held) → Stays tests old mid

@@ -4,6 +4,7 @@ use Rattle.serde_json.specs.Data.{Data}
 use Rattle.safety_laws.specs.Log.{Entry}
 use Rattle.safety_laws.specs.Trace.{TraceEvent, Appended}
 use Rattle.trace_judge.specs.Fields.{IsId, IsLen, IsNamed, number_in}
+use Rattle.trace_judge.specs.Logs.{TakesMissing}
 use Rattle.trace_judge.specs.Names.{Numbering}
 
 -- a server takes entries of the leader of a term, and has so many then: those that it keeps, and those
@@ -11,6 +12,11 @@ use Rattle.trace_judge.specs.Names.{Numbering}
 abbrev pub TakesUpTo : ℕ → ℕ → ℕ → ℕ → TraceEvent ℕ ℕ ℕ → Type 0
 TakesUpTo s t c len e =
     (n : ℕ) × ((sent : List (Entry ℕ ℕ)) × (e ≡ Appended s t c n sent) × (n + length sent ≡ len))
+
+-- a server takes the entries of a leader that its log lacks
+abbrev pub IsMissing : List (TraceEvent ℕ ℕ ℕ) → TraceEvent ℕ ℕ ℕ → Type 0
+IsMissing es (Appended s t c n sent) = TakesMissing es s t c n sent
+IsMissing es e = Unit {0}
 
 -- names have these numbers
 module _ (number_of : Numbering) where

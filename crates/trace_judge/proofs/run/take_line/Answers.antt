@@ -14,9 +14,9 @@ returns-then-branch-clause-taken c =
 
 pub returns-else-branch-clause-broken : goal.returns-else-branch-clause-broken
 returns-else-branch-clause-broken c = λ _.
-    judges_none number_tests c.args.first_line.now c.args.judge.now c.take.new.self
+    judges_none number_tests c.args.first_line.now c.args.line.now c.args.judge.now c.take.new.self
     ((rw c.in-Err-Malformed.field-0-is at c.in-Err-Malformed.ensures.broken) tt)
 
 pub returns-in-Err-clause-broken : goal.returns-in-Err-clause-broken
 returns-in-Err-clause-broken c = λ broken.
-    judges_none number_tests c.args.first_line.now c.args.judge.now c.take.new.self (c.in-Err.ensures.broken broken)
+    judges_none number_tests c.args.first_line.now c.args.line.now c.args.judge.now c.take.new.self (c.in-Err.ensures.broken broken)

@@ -1,7 +1,7 @@
-use Rattle.trace_judge.specs.Inner.Taken.{Fills}
+use Rattle.trace_judge.specs.Inner.Taken.{FillsApplied}
 use Rattle.trace_judge.specs.Numbers.{number_tests}
 use Rattle.trace_judge.proofs.judge.Judge.acknowledge.Given as goal
 
 -- events may have been filled in
 abbrev pub invariant-loop-number : goal.invariant-loop-number
-invariant-loop-number l = Fills number_tests l.fn.self l.self
+invariant-loop-number l = FillsApplied number_tests l.server l.len l.fn.self l.self

@@ -1,11 +1,16 @@
 use Rattle.trace_judge.specs.Numbers.{number_tests}
-use Rattle.trace_judge.proofs.lemmas.RunLemmas.{fills_both}
+use Rattle.trace_judge.proofs.lemmas.RunLemmas.{fills_both, fills_nothing}
 use Rattle.trace_judge.proofs.judge.Judge.commit.Goals as goal
 
+pub loop-number-init : goal.loop-number-init
+loop-number-init c = λ number_of first d says. fills_nothing number_tests number_of first d c.args.self.now
+
 pub returns-then-branch : goal.returns-then-branch
-returns-then-branch c =
-    fills_both number_tests c.args.self.now c.loop-number.self c.commit_by.new.self c.loop-number.invariant c.in_ok-commit_by.ensures
+returns-then-branch c = λ number_of first d says.
+    fills_both number_tests number_of first d c.args.self.now c.loop-number.self c.commit_by.new.self
+    (c.loop-number.invariant number_of first d says) (c.in_ok-commit_by.ensures number_of first d says)
 
 pub loop-number-preserved : goal.loop-number-preserved
-loop-number-preserved c =
-    fills_both number_tests c.args.self.now c.loop-number.self c.commit_by.new.self c.loop-number.invariant c.in_ok-commit_by.ensures
+loop-number-preserved c = λ number_of first d says.
+    fills_both number_tests number_of first d c.args.self.now c.loop-number.self c.commit_by.new.self
+    (c.loop-number.invariant number_of first d says) (c.in_ok-commit_by.ensures number_of first d says)

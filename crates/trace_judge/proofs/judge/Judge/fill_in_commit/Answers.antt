@@ -1,14 +1,12 @@
-use Rattle.trace_judge.specs.Numbers.{number_tests}
-use Rattle.trace_judge.proofs.lemmas.RunLemmas.{fills_both}
+use Rattle.std.proofs.Common.{refl}
+use Rattle.std.proofs.lemmas.Result.{on_ok_weaker}
+use Rattle.serde_json.specs.View.{view}
+use Rattle.trace_judge.specs.Inner.Table.{numbering}
 use Rattle.trace_judge.proofs.judge.Judge.fill_in_commit.Goals as goal
 
-pub returns-in_ok-commit-2 : goal.returns-in_ok-commit-2
-returns-in_ok-commit-2 c =
-    fills_both number_tests c.args.self.now c.acknowledge.new.self c.commit-then-branch-2.new.self
-    (fills_both number_tests c.args.self.now c.commit.new.self c.acknowledge.new.self c.in_ok-commit.ensures
-    c.in_ok-acknowledge.ensures) c.in_ok-commit-2.ensures
-
-pub returns-else-branch-2 : goal.returns-else-branch-2
-returns-else-branch-2 c =
-    fills_both number_tests c.args.self.now c.commit.new.self c.acknowledge.new.self c.in_ok-commit.ensures
-    c.in_ok-acknowledge.ensures
+pub returns : goal.returns
+returns c =
+    let old = c.args.self.now in
+    on_ok_weaker c.commit_applied.result (λ fills.
+    fills (numbering old.names) old.first (view c.args.value.now)
+    (c.if-not-is_named.ensures.yes refl, c.in-Some.ensures, c.in-Some-len.ensures)) c.commit_applied.ensures

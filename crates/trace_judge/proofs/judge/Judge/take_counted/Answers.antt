@@ -10,12 +10,13 @@ returns-in-Ok-take_event-clause-taken c =
     let old = c.args.self.now in
     let other = trace_event c.in-Some.other in
     let refused = c.in-Err.ensures.broken (c.if-not-is_of_config.ensures refl) in
-    λ says says_none.
+    λ says fits says_none.
     let too = c.in-Some.ensures (numbering old.names) old.first says in (
       other,
       (
         None,
         too.0,
+        λ es keeps. too.2 es,
         too.1,
         takes_after number_tests old c.take_event.new.self c.take_event-2.new.self other None refused
             c.in-Ok-take_event.ensures.taken,
