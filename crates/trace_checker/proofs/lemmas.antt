@@ -22,3 +22,4 @@ pub mod LogTreeLemmas
 pub mod CommonLemmas
 pub mod ChildLemmas
 pub mod ReadLemmas
+pub mod IndexLemmas

@@ -51,7 +51,7 @@ pub use violation::Violation;
 /// contents hold a config and what its quorums are. The checker keeps the log and the term of each
 /// server, and the log, the votes and the acknowledgements of each leader, but no list of events.
 #[derive(Drop)]
-pub struct Checker<T, N, D, C> {
+pub struct Checker<T, N, D: Ord, C> {
     /// When configs count. A cluster keeps to one way, because no rule allows both.
     counting: ConfigsCount,
     configs: C,
@@ -70,7 +70,7 @@ pub struct Checker<T, N, D, C> {
     alloc: Global,
 }
 
-impl<T: Term, N: Copy + Eq, D: Copy + Eq, C: Configs<N, D> + Drop> Checker<T, N, D, C> {
+impl<T: Term, N: Copy + Eq, D: Copy + Ord, C: Configs<N, D> + Drop> Checker<T, N, D, C> {
     /// Returns a checker of a cluster in which nothing has happened.
     ///
     /// # Errors
@@ -493,7 +493,7 @@ impl<T: Term, N: Copy + Eq, D: Copy + Eq, C: Configs<N, D> + Drop> Checker<T, N,
 
 /// Whether a leader of a term of at most this rank has committed these entries. No leader has
 /// committed more entries than `most`. The search begins with the leader at position `near`.
-fn any_knows<T: Term, N: Copy + Eq, D: Copy + Eq>(
+fn any_knows<T: Term, N: Copy + Eq, D: Copy + Ord>(
     logs: &Logs<T, D>,
     leaders: &VecDeque<Leader<T, N>>,
     most: usize,
@@ -519,7 +519,7 @@ fn any_knows<T: Term, N: Copy + Eq, D: Copy + Eq>(
 
 /// Whether a leader of a term of at most this rank, at this position or a later one, has committed
 /// these entries.
-fn knows_from<T: Term, N: Copy + Eq, D: Copy + Eq>(
+fn knows_from<T: Term, N: Copy + Eq, D: Copy + Ord>(
     logs: &Logs<T, D>,
     leaders: &VecDeque<Leader<T, N>>,
     from: usize,

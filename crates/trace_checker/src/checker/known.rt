@@ -31,7 +31,7 @@ pub struct Commit {
 
 /// Whether a commit covers all entries of a log, and is of an earlier term than this one, or of
 /// this one and counted at a shorter length.
-fn covers<T: Term, D: Copy + Eq>(
+fn covers<T: Term, D: Copy + Ord>(
     logs: &Logs<T, D>,
     commit: &Commit,
     rank: u128,
@@ -53,7 +53,7 @@ fn covers<T: Term, D: Copy + Eq>(
 
 /// Whether the last config of a log is known: the log has none, or a leader of an earlier term than
 /// this one has committed the log, or one of this term, counting at a shorter length.
-pub fn is_known<T: Term, D: Copy + Eq>(
+pub fn is_known<T: Term, D: Copy + Ord>(
     logs: &Logs<T, D>,
     commits: &[Commit],
     rank: u128,
@@ -72,7 +72,7 @@ pub fn is_known<T: Term, D: Copy + Eq>(
 
 /// Whether a leader of an earlier term than this one has committed all entries of a log, or one of
 /// this term, counting at a shorter length.
-fn is_covered<T: Term, D: Copy + Eq>(
+fn is_covered<T: Term, D: Copy + Ord>(
     logs: &Logs<T, D>,
     commits: &[Commit],
     rank: u128,
@@ -94,7 +94,7 @@ fn is_covered<T: Term, D: Copy + Eq>(
 
 /// Returns the log up to the config before the last config of a log, the empty log if there is
 /// none.
-pub fn config_before<T: Term, D: Copy + Eq>(logs: &Logs<T, D>, log: usize) -> usize
+pub fn config_before<T: Term, D: Copy + Ord>(logs: &Logs<T, D>, log: usize) -> usize
     ensures config { (holds : D → Bool) → AreLogs holds logs.now → log < length logs.now.logs →
         result ≤ config_at logs.now log }
     ensures at_most_one { (holds : D → Bool) → AreLogs holds logs.now → log < length logs.now.logs →
@@ -108,7 +108,11 @@ pub fn config_before<T: Term, D: Copy + Eq>(logs: &Logs<T, D>, log: usize) -> us
 }
 
 /// Whether at most one config follows the first entries of a log.
-pub fn follows_at_most_one<T: Term, D: Copy + Eq>(logs: &Logs<T, D>, log: usize, len: usize) -> bool
+pub fn follows_at_most_one<T: Term, D: Copy + Ord>(
+    logs: &Logs<T, D>,
+    log: usize,
+    len: usize,
+) -> bool
     ensures { (holds : D → Bool) → AreLogs holds logs.now → log < length logs.now.logs → result
         ≡ at_most_one_in holds (drop len (log_at logs.now log)) }
 {
@@ -117,7 +121,7 @@ pub fn follows_at_most_one<T: Term, D: Copy + Eq>(logs: &Logs<T, D>, log: usize,
 
 /// Whether the config of a log is known to a candidate, and a quorum of it has voted for the
 /// candidate.
-fn is_elected_by<T: Term, N: Copy + Eq, D: Copy + Eq, C: Configs<N, D>>(
+fn is_elected_by<T: Term, N: Copy + Eq, D: Copy + Ord, C: Configs<N, D>>(
     configs: &C,
     logs: &Logs<T, D>,
     commits: &[Commit],
@@ -140,7 +144,7 @@ fn is_elected_by<T: Term, N: Copy + Eq, D: Copy + Eq, C: Configs<N, D>>(
 
 /// Whether a candidate is elected: by the last config of its log or by the one before it, if that
 /// one is known to it.
-fn is_elected_by_known<T: Term, N: Copy + Eq, D: Copy + Eq, C: Configs<N, D>>(
+fn is_elected_by_known<T: Term, N: Copy + Eq, D: Copy + Ord, C: Configs<N, D>>(
     configs: &C,
     logs: &Logs<T, D>,
     commits: &[Commit],
@@ -161,7 +165,7 @@ fn is_elected_by_known<T: Term, N: Copy + Eq, D: Copy + Eq, C: Configs<N, D>>(
 }
 
 /// Whether a candidate is elected by those who have voted for it.
-pub fn is_elected<T: Term, N: Copy + Eq, D: Copy + Eq, C: Configs<N, D>>(
+pub fn is_elected<T: Term, N: Copy + Eq, D: Copy + Ord, C: Configs<N, D>>(
     counting: ConfigsCount,
     configs: &C,
     logs: &Logs<T, D>,
@@ -189,7 +193,7 @@ pub fn is_elected<T: Term, N: Copy + Eq, D: Copy + Eq, C: Configs<N, D>>(
 /// # Errors
 ///
 /// Out of memory. The commits are then as they were.
-pub fn note_commit<T: Term, D: Copy + Eq>(
+pub fn note_commit<T: Term, D: Copy + Ord>(
     logs: &Logs<T, D>,
     commits: &mut Vec<Commit>,
     commit: Commit,
@@ -209,7 +213,7 @@ pub fn note_commit<T: Term, D: Copy + Eq>(
 
 /// Whether a commit is of the same term as an earlier one, counted at the same length, and has all
 /// its entries.
-fn continues<T: Term, D: Copy + Eq>(logs: &Logs<T, D>, earlier: &Commit, commit: &Commit) -> bool
+fn continues<T: Term, D: Copy + Ord>(logs: &Logs<T, D>, earlier: &Commit, commit: &Commit) -> bool
     ensures { IsTrue result → Continues (same_entry_by T.eq D.eq) logs.now earlier.now commit.now }
 {
     if commit.rank != earlier.rank {

@@ -1,9 +1,17 @@
+use Rattle.std.proofs.Common.{◌∙◌, length, sym}
+use Rattle.std.proofs.lemmas.Bool.{eqb-true}
+use Rattle.std.proofs.lemmas.List.{nil_from_length}
 use Rattle.std.proofs.lemmas.Result.{IfErr-weaker, on_ok_weaker}
 use Rattle.serde_json.specs.View.{view}
 use Rattle.trace_judge.specs.Inner.Taken.{IsBroken, Refuses, Stays}
 use Rattle.trace_judge.specs.Numbers.{number_tests}
-use Rattle.trace_judge.proofs.lemmas.RunLemmas.{fills_named, fills_stays, refuses, takes_line}
+use Rattle.trace_judge.proofs.lemmas.RunLemmas.{fills_named, fills_stays, refuses, takes_empty, takes_line}
 use Rattle.trace_judge.proofs.judge.Judge.take.Goals as goal
+
+pub returns-then-is_empty-clause-taken : goal.returns-then-is_empty-clause-taken
+returns-then-is_empty-clause-taken c =
+    takes_empty number_tests c.args.line.now c.args.self.now (nil_from_length c.args.line.now
+    (eqb-true (length c.args.line.now) 0 (sym c.is_empty.ensures ∙ c.if-is_empty.true)))
 
 pub returns-clause-taken : goal.returns-clause-taken
 returns-clause-taken c =
