@@ -106,13 +106,14 @@ long_run() {
             }
         }'
 }
-# A run in which each entry but the first one changes the members: a server is added and removed, over and over.
+# A run in which each entry but the first one changes the members: a server is added and removed, over and over. Configs
+# count once they are `appended` or `applied`.
 many_changes() {
-    awk '
+    awk -v configs="$1" '
         function line(event, fields) { printf "{\"event\":\"%s\",%s}\n", event, fields }
         function indexed(server) { return sprintf("\"server\":%d,\"term\":1,\"leader\":1,\"index\":%d", server, i) }
         BEGIN {
-            line("started", "\"voters\":[[1,2,3]]")
+            line("started", "\"voters\":[[1,2,3]],\"configs\":\"" configs "\"")
             line("campaigned", "\"server\":1,\"term\":1")
             line("granted", "\"server\":2,\"term\":1,\"candidate\":1")
             for (i = 1; i <= 54546; i++) {
@@ -183,7 +184,7 @@ statuses() {
 
 # The answers of `raft_trace`, also to odd input.
 records() {
-    local safe="3 servers, 0 terms with a leader, 0 committed, 0 membership changes"
+    local word safe="3 servers, 0 terms with a leader, 0 committed, 0 membership changes"
     local no_event="line 2: it is no JSON with a text \`event\`"
     compare "a safe run" 0 "$(cat crates/trace_program/stdout)" "" trace < crates/trace_program/stdin
     compare "a chart" 0 "$(cat crates/trace_program/chart.stdout)" "" trace --chart < crates/trace_program/stdin
@@ -226,8 +227,10 @@ records() {
     compare "a chart without memory" 3 "" "raft_trace: out of memory" trace_within 14000 15 --chart < <(many_snapshots)
     compare "a million lines" 0 "safe: 1,018,500 events, 5 servers, 7,000 terms with a leader, 70,000 committed, 0 membership\
  changes, 2,800 appends inferred" "" trace_within 60000 15 < <(long_run)
-    compare "54,545 changes of members" 0 "safe: 600,008 events, 4 servers, 1 term with a leader, 54,546 committed, 54,545\
- membership changes" "" trace_within 100000 5 < <(many_changes)
+    for word in appended applied; do
+        compare "54,545 changes of members that count once they are $word" 0 "safe: 600,008 events, 4 servers, 1 term with a leader,\
+ 54,546 committed, 54,545 membership changes" "" trace_within 100000 5 < <(many_changes $word)
+    done
     compare "a record that cannot be read" 3 "standard input: Is a directory (os error 21)" "" trace < /
     compare "an answer that cannot be written" 3 "" "raft_trace: No space left on device (os error 28)" \
         trace_into_full_device < <(start)

@@ -23,3 +23,4 @@ pub mod CommonLemmas
 pub mod ChildLemmas
 pub mod ReadLemmas
 pub mod IndexLemmas
+pub mod UpToLemmas

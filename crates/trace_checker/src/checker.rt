@@ -33,7 +33,7 @@ use broken::{
 };
 pub use configs::Configs;
 use counting::is_applied;
-use known::{Commit, is_elected, note_commit};
+use known::{Commit, Commits, is_elected, note_commit};
 use leader::Leader;
 pub use learn::LearnError;
 use logs::Logs;
@@ -66,7 +66,7 @@ pub struct Checker<T, N, D: Ord, C> {
     committed: usize,
     /// What leaders have committed, the newest last. It is empty if configs count from their append
     /// on.
-    commits: Vec<Commit>,
+    commits: Commits,
     alloc: Global,
 }
 
@@ -107,7 +107,7 @@ impl<T: Term, N: Copy + Eq, D: Copy + Ord, C: Configs<N, D> + Drop> Checker<T, N
             leaders: VecDeque::new(alloc),
             places: Places::new(alloc),
             committed: 0,
-            commits: Vec::new(alloc),
+            commits: Commits::new(alloc),
             alloc,
         })
     }
@@ -443,8 +443,8 @@ impl<T: Term, N: Copy + Eq, D: Copy + Ord, C: Configs<N, D> + Drop> Checker<T, N
         requires { leader < deque_len self.old.leaders }
         ensures noted { OnOk result (IsNotedBy (tests_when self.old.counting T.Term N.PartialEq
             D.PartialEq C.Configs self.old.configs) (kept_by self.old) leader len counted_at
-            self.new.commits.items) }
-        ensures err { OnErr result (self.new.commits.items ≡ self.old.commits.items) }
+            self.new.commits) }
+        ensures err { OnErr result (self.new.commits ≡ self.old.commits) }
         ensures rest { self.new ≡ record self.old { commits = self.new.commits } }
     {
         if !is_applied(self.counting) {

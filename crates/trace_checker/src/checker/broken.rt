@@ -9,7 +9,7 @@ ghost use Rattle.trace_checker.specs.Inner.CheckerState.{ack_rule, append_rule, 
 
 use super::configs::Configs;
 use super::counting::is_applied;
-use super::known::{Commit, follows_at_most_one, is_known};
+use super::known::{Commits, follows_at_most_one, is_known};
 use super::leader::Leader;
 use super::logs::Logs;
 use super::server::Server;
@@ -239,7 +239,7 @@ fn config_rule<T: Term, N: Copy + Eq, D: Copy + Ord, C: Configs<N, D>>(
 pub fn commit_rule<T: Term, N: Copy + Eq, D: Copy + Ord>(
     counting: ConfigsCount,
     logs: &Logs<T, D>,
-    commits: &[Commit],
+    commits: &Commits,
     leader: &Leader<T, N>,
     len: usize,
     counted_at: usize,
@@ -271,7 +271,7 @@ pub fn commit_rule<T: Term, N: Copy + Eq, D: Copy + Ord>(
 /// besides the acknowledgements of a quorum.
 fn known_commit_rule<T: Term, N: Copy + Eq, D: Copy + Ord>(
     logs: &Logs<T, D>,
-    commits: &[Commit],
+    commits: &Commits,
     leader: &Leader<T, N>,
     len: usize,
     counted_at: usize,

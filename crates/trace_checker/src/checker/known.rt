@@ -16,7 +16,8 @@ use super::leader::Leader;
 use super::logs::Logs;
 use crate::term::Term;
 use safety_laws::counting::ConfigsCount;
-use std::alloc::AllocError;
+use std::alloc::{AllocError, Global};
+use std::marker::Model;
 
 /// What a leader has committed.
 #[derive(Clone, Copy)]
@@ -27,6 +28,39 @@ pub struct Commit {
     pub counted_at: usize,
     /// The log of the committed entries.
     pub log: usize,
+}
+
+/// What leaders have committed, the newest last.
+#[derive(Drop)]
+pub struct Commits {
+    list: Vec<Commit>,
+    /// No commit has a log with a greater number. By it most questions about a log that no commit
+    /// covers are answered without a search.
+    greatest: usize,
+}
+
+impl Model for Commits {
+    ghost use Rattle.std.specs.Prelude.{List};
+    ghost use Rattle.trace_checker.specs.Inner.Known.{AreUpTo};
+    ghost use Rattle.trace_checker.specs.declared.checker.known.Commit.{Commit};
+
+    ghost Value = { List Commit };
+
+    ghost view = { λ c. c.list.items };
+
+    ghost invariant = { λ c. AreUpTo c.greatest c.list.items };
+}
+
+impl Commits {
+    /// Returns no commits.
+    pub fn new(alloc: Global) -> Self
+        ensures { result ≡ [] }
+    {
+        Commits {
+            list: Vec::new(alloc),
+            greatest: 0,
+        }
+    }
 }
 
 /// Whether a commit covers all entries of a log, and is of an earlier term than this one, or of
@@ -55,7 +89,7 @@ fn covers<T: Term, D: Copy + Ord>(
 /// this one has committed the log, or one of this term, counting at a shorter length.
 pub fn is_known<T: Term, D: Copy + Ord>(
     logs: &Logs<T, D>,
-    commits: &[Commit],
+    commits: &Commits,
     rank: u128,
     counted_at: usize,
     log: usize,
@@ -67,7 +101,11 @@ pub fn is_known<T: Term, D: Copy + Ord>(
     if logs.config(log) == 0 {
         return true;
     }
-    is_covered(logs, commits, rank, counted_at, log)
+    // A log begins only with logs of lesser numbers, so no commit covers this one.
+    if commits.greatest < log && log <= logs.count() {
+        return false;
+    }
+    is_covered(logs, &commits.list, rank, counted_at, log)
 }
 
 /// Whether a leader of an earlier term than this one has committed all entries of a log, or one of
@@ -124,7 +162,7 @@ pub fn follows_at_most_one<T: Term, D: Copy + Ord>(
 fn is_elected_by<T: Term, N: Copy + Eq, D: Copy + Ord, C: Configs<N, D>>(
     configs: &C,
     logs: &Logs<T, D>,
-    commits: &[Commit],
+    commits: &Commits,
     leader: &Leader<T, N>,
     config: usize,
 ) -> bool
@@ -147,7 +185,7 @@ fn is_elected_by<T: Term, N: Copy + Eq, D: Copy + Ord, C: Configs<N, D>>(
 fn is_elected_by_known<T: Term, N: Copy + Eq, D: Copy + Ord, C: Configs<N, D>>(
     configs: &C,
     logs: &Logs<T, D>,
-    commits: &[Commit],
+    commits: &Commits,
     leader: &Leader<T, N>,
 ) -> bool
     ensures { let k = tests_when WhenApplied T.Term N.PartialEq D.PartialEq C.Configs configs.now in
@@ -169,7 +207,7 @@ pub fn is_elected<T: Term, N: Copy + Eq, D: Copy + Ord, C: Configs<N, D>>(
     counting: ConfigsCount,
     configs: &C,
     logs: &Logs<T, D>,
-    commits: &[Commit],
+    commits: &Commits,
     leader: &Leader<T, N>,
 ) -> bool
     ensures { let k = tests_when counting T.Term N.PartialEq D.PartialEq C.Configs configs.now in
@@ -194,6 +232,25 @@ pub fn is_elected<T: Term, N: Copy + Eq, D: Copy + Ord, C: Configs<N, D>>(
 ///
 /// Out of memory. The commits are then as they were.
 pub fn note_commit<T: Term, D: Copy + Ord>(
+    logs: &Logs<T, D>,
+    commits: &mut Commits,
+    commit: Commit,
+) -> Result<(), AllocError>
+    ensures noted { OnOk result (IsNoted (same_entry_by T.eq D.eq) logs.now commits.old
+        commit commits.new) }
+    ensures err { OnErr result (commits.new ≡ commits.old) }
+{
+    note_in(logs, &mut commits.list, commit)?;
+    commits.greatest = commits.greatest.max(commit.log);
+    Ok(())
+}
+
+/// Notes a commit in a list. If it continues the newest one, it takes the place of that one.
+///
+/// # Errors
+///
+/// Out of memory. The list is then as it was.
+fn note_in<T: Term, D: Copy + Ord>(
     logs: &Logs<T, D>,
     commits: &mut Vec<Commit>,
     commit: Commit,

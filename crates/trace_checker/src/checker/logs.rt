@@ -66,7 +66,7 @@ impl<T: Copy + Eq, D: Copy + Ord> Logs<T, D> {
     }
 
     /// Returns the number of logs that are not empty.
-    fn count(&self) -> usize
+    pub fn count(&self) -> usize
         ensures count { result + 1 ≡ length self.now.logs }
         ensures tree { IsTree self.now }
         ensures empty { log_at self.now 0 ≡ [] }
