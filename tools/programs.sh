@@ -52,8 +52,8 @@ trace() { timeout 60 crates/trace_program/out/trace_program "$@"; }
 trace_into_full_device() { trace "$@" > /dev/full; }
 trace_into_nothing() { trace "$@" >&-; }
 trace_unheard() { trace "$@" 2>&-; }
-# Has so many kilobytes of memory, and 15 seconds of a processor: with more work than the lines say it takes longer.
-trace_within() { (ulimit -v "$1" -t 15; shift; trace "$@"); }
+# Has so many kilobytes of memory and so many seconds of a processor: with more work than the lines say it takes longer.
+trace_within() { (ulimit -v "$1" -t "$2"; shift 2; trace "$@"); }
 trace_usage() { trace "$@" | grep '^Usage: '; }
 # How `raft_trace` says that a word is wrong: what is wrong, a tip, and the usage.
 trace_mistake() {
@@ -104,6 +104,29 @@ long_run() {
                     line("acked", indexed(5))
                     line("applied", sprintf("\"server\":5,\"index\":%d", i))
                 }
+            }
+        }'
+}
+# A run in which each entry but the first one changes the members: a server is added and removed, over and over. Configs
+# count once they are `appended` or `applied`.
+many_changes() {
+    awk -v configs="$1" '
+        function line(event, fields) { printf "{\"event\":\"%s\",%s}\n", event, fields }
+        function indexed(server) { return sprintf("\"server\":%d,\"term\":1,\"leader\":1,\"index\":%d", server, i) }
+        BEGIN {
+            line("started", "\"voters\":[[1,2,3]],\"configs\":\"" configs "\"")
+            line("campaigned", "\"server\":1,\"term\":1")
+            line("granted", "\"server\":2,\"term\":1,\"candidate\":1")
+            for (i = 1; i <= 54546; i++) {
+                voters = i == 1 ? "" : i % 2 ? ",\"voters\":[[1,2,3]]" : ",\"voters\":[[1,2,3,4]]"
+                line("wrote", sprintf("\"leader\":1,\"term\":1,\"index\":%d,\"content\":\"%x\"%s", i, i, voters))
+                for (s = 1; s <= 3; s++) {
+                    line("appended", sprintf("\"server\":%d,\"term\":1,\"leader\":1,\"prev\":%d,\"entries\":[[1,\"%x\"]]", s, i - 1, i))
+                    line("acked", indexed(s))
+                }
+                line("committed", sprintf("\"leader\":1,\"term\":1,\"index\":%d", i))
+                for (s = 1; s <= 3; s++)
+                    line("applied", sprintf("\"server\":%d,\"index\":%d", s, i))
             }
         }'
 }
@@ -162,7 +185,7 @@ statuses() {
 
 # The answers of `raft_trace`, also to odd input.
 records() {
-    local safe="3 servers, 0 terms with a leader, 0 committed, 0 membership changes"
+    local word safe="3 servers, 0 terms with a leader, 0 committed, 0 membership changes"
     local no_json="line 2: it is no JSON at column" unexpected="this may not follow in JSON, or it is nested deeper than 127"
     compare "a safe run" 0 "$(cat crates/trace_program/stdout)" "" trace < crates/trace_program/stdin
     compare "a chart" 0 "$(cat crates/trace_program/chart.stdout)" "" trace --chart < crates/trace_program/stdin
@@ -198,11 +221,15 @@ records() {
     compare "a long name" 1 \
         "line 2: server \"$(printf 'a%.0s' {1..80})\".. campaigns in term 0: the server has reached or passed the term already" \
         "" trace < <(start; printf '{"event":"campaigned","term":0,"server":"'; ten_megabytes a; printf '"}\n')
-    compare "a long line without memory" 3 "line 2: out of memory" "" trace_within 28000 \
+    compare "a long line without memory" 3 "line 2: out of memory" "" trace_within 28000 15 \
         < <(start; printf '{"x":"'; ten_megabytes a; printf '","event":"campaigned","server":1,"term":1}\n')
-    compare "a chart without memory" 3 "" "raft_trace: out of memory" trace_within 14000 --chart < <(many_snapshots)
+    compare "a chart without memory" 3 "" "raft_trace: out of memory" trace_within 14000 15 --chart < <(many_snapshots)
     compare "a million lines" 0 "safe: 1,018,500 events, 5 servers, 7,000 terms with a leader, 70,000 committed, 0 membership\
- changes, 2,800 appends inferred" "" trace_within 60000 < <(long_run)
+ changes, 2,800 appends inferred" "" trace_within 60000 15 < <(long_run)
+    for word in appended applied; do
+        compare "54,545 changes of members that count once they are $word" 0 "safe: 600,008 events, 4 servers, 1 term with a leader,\
+ 54,546 committed, 54,545 membership changes" "" trace_within 100000 5 < <(many_changes $word)
+    done
     compare "a record that cannot be read" 3 "standard input: Is a directory (os error 21)" "" trace < /
     compare "an answer that cannot be written" 3 "" "raft_trace: No space left on device (os error 28)" \
         trace_into_full_device < <(start)

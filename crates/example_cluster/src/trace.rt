@@ -9,6 +9,7 @@ use std::alloc::{AllocError, Global};
 use trace_checker::check::Refused;
 use trace_checker::checker::{Checker, LearnError, Violation};
 use trace_checker::event::Event as LawEvent;
+use trace_checker::held::Held;
 use trace_checker::memberships::Memberships;
 
 /// What a server has said or done that its state does not show.
@@ -180,7 +181,7 @@ fn nothing_recorded(alloc: Global, servers: u64) -> Result<Vec<Recorded>, AllocE
 fn first_voters(alloc: Global) -> Result<Memberships<u64, u64>, AllocError> {
     Ok(Memberships {
         initial: vec![in alloc; (1..=3).collect(alloc)?]?,
-        held: Vec::new(alloc),
+        held: Held::new(alloc),
     })
 }
 

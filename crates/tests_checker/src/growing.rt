@@ -6,6 +6,7 @@ use std::test::Fail;
 use tests_support::printing::debugs;
 use tests_support::words::{lists, number, words};
 use trace_checker::checker::Checker;
+use trace_checker::held::Held;
 use trace_checker::memberships::Memberships;
 
 /// Rows of calls: the checker learns of the configs that entries of a content hold, forgets the
@@ -42,7 +43,7 @@ learn 104 0,1,2,3 = Known";
 fn three_servers(alloc: Global) -> Result<Checked, AllocError> {
     let configs = Memberships {
         initial: lists(alloc, "0,1,2")?,
-        held: Vec::new(alloc),
+        held: Held::new(alloc),
     };
     Checker::new(alloc, configs).map_err(|_| AllocError)
 }

@@ -9,6 +9,7 @@ use trace_checker::check::check_counting;
 use trace_checker::checker::{Checker, Violation};
 use trace_checker::entry::Entry;
 use trace_checker::event::Event;
+use trace_checker::held::Held;
 use trace_checker::memberships::Memberships;
 
 pub type Recorded = Event<u64, u64, u64>;
@@ -128,10 +129,10 @@ pub fn is_rule(alloc: Global, violation: Violation, name: &str) -> bool {
 }
 
 /// Returns the memberships of the contents of `HELD`.
-fn held(alloc: Global) -> Result<Vec<(u64, Vec<Vec<u64>>)>, AllocError> {
-    let mut held = Vec::new(alloc);
+fn held(alloc: Global) -> Result<Held<u64, u64>, AllocError> {
+    let mut held = Held::new(alloc);
     for (content, configs) in HELD {
-        held.extend(Some((content, lists(alloc, configs)?)))?;
+        held.push(content, lists(alloc, configs)?)?;
     }
     Ok(held)
 }

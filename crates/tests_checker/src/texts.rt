@@ -6,16 +6,16 @@ use std::test::Fail;
 use tests_support::printing::debugs;
 use trace_checker::entry::Entry;
 use trace_checker::event::Event;
+use trace_checker::held::Held;
 use trace_checker::memberships::Memberships;
 
 /// Whether memberships with one that an entry of content 7 holds have their text.
 fn memberships_print(alloc: Global) -> Result<bool, AllocError> {
     let initial = vec![in alloc; (1..=3).collect(alloc)?]?;
     let joint = vec![in alloc; (1..=2).collect(alloc)?]?;
-    let memberships = Memberships::<u64, u64> {
-        initial,
-        held: vec![in alloc; (7, joint)]?,
-    };
+    let mut held = Held::new(alloc);
+    held.push(7, joint)?;
+    let memberships = Memberships::<u64, u64> { initial, held };
     let text = "Memberships { initial: [[1, 2, 3]], held: [(7, [[1, 2]])] }";
     Ok(debugs(alloc, &memberships, text))
 }

@@ -22,3 +22,5 @@ pub mod LogTreeLemmas
 pub mod CommonLemmas
 pub mod ChildLemmas
 pub mod ReadLemmas
+pub mod IndexLemmas
+pub mod UpToLemmas

@@ -114,7 +114,7 @@ kept_by c = record {
   leaders = c.leaders.items;
   places = c.places.entries;
   committed = c.committed;
-  commits = c.commits.items;
+  commits = c.commits;
 }
 
 module _ {T ID D : Type 0} (k : Tests T ID D (Option D)) where

@@ -4,6 +4,7 @@ pub mod Logs
 pub mod TermsState
 pub mod Nodes
 pub mod Places
+pub mod Index
 pub mod Kept
 pub mod Known
 pub mod Noted

@@ -1,8 +1,13 @@
 -- Memberships of the layer as configs of the checker.
 use Rattle.std.specs.Prelude.{◌≡◌, ◌+◌, ◌++◌, Bool, not, nat_lt, count_by, if◌then◌else◌, Option, Some, None, List, [], ◌∷◌, length}
+use Rattle.std.specs.Global.{Vec}
 use Rattle.std.specs.List.{list_any}
 use Rattle.std.specs.Set.{is_member}
 use Rattle.raft_members.specs.quorum.QuorumSize.{majority_size}
+
+-- memberships, each with the content of its entry, in the order in which they became known
+pub record HeldList (N D : Type 0) : Type 0 where
+  pub items : List (D × Vec (Vec N))
 
 -- the membership that the entry with a content holds
 abbrev pub held_by : {Q D : Type 0} → (D → D → Bool) → D → List (D × List Q) → List Q

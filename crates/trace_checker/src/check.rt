@@ -32,7 +32,7 @@ pub struct Refused {
 ///
 /// The first event that was not allowed, with the rule that it breaks, or out of memory. If quorums
 /// of the initial config do not intersect, it is the rule `InitialConfig` with the event 0.
-pub fn check<T: Term, N: Copy + Eq, D: Copy + Eq, C: Configs<N, D> + Drop>(
+pub fn check<T: Term, N: Copy + Eq, D: Copy + Ord, C: Configs<N, D> + Drop>(
     alloc: Global,
     configs: C,
     events: &[Event<T, N, D>],
@@ -56,7 +56,7 @@ pub fn check<T: Term, N: Copy + Eq, D: Copy + Eq, C: Configs<N, D> + Drop>(
 /// # Errors
 ///
 /// The errors of `check`.
-pub fn check_counting<T: Term, N: Copy + Eq, D: Copy + Eq, C: Configs<N, D> + Drop>(
+pub fn check_counting<T: Term, N: Copy + Eq, D: Copy + Ord, C: Configs<N, D> + Drop>(
     alloc: Global,
     counting: ConfigsCount,
     configs: C,

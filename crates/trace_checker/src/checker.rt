@@ -33,7 +33,7 @@ use broken::{
 };
 pub use configs::Configs;
 use counting::is_applied;
-use known::{Commit, is_elected, note_commit};
+use known::{Commit, Commits, is_elected, note_commit};
 use leader::Leader;
 pub use learn::LearnError;
 use logs::Logs;
@@ -51,7 +51,7 @@ pub use violation::Violation;
 /// contents hold a config and what its quorums are. The checker keeps the log and the term of each
 /// server, and the log, the votes and the acknowledgements of each leader, but no list of events.
 #[derive(Drop)]
-pub struct Checker<T, N, D, C> {
+pub struct Checker<T, N, D: Ord, C> {
     /// When configs count. A cluster keeps to one way, because no rule allows both.
     counting: ConfigsCount,
     configs: C,
@@ -66,11 +66,11 @@ pub struct Checker<T, N, D, C> {
     committed: usize,
     /// What leaders have committed, the newest last. It is empty if configs count from their append
     /// on.
-    commits: Vec<Commit>,
+    commits: Commits,
     alloc: Global,
 }
 
-impl<T: Term, N: Copy + Eq, D: Copy + Eq, C: Configs<N, D> + Drop> Checker<T, N, D, C> {
+impl<T: Term, N: Copy + Eq, D: Copy + Ord, C: Configs<N, D> + Drop> Checker<T, N, D, C> {
     /// Returns a checker of a cluster in which nothing has happened.
     ///
     /// # Errors
@@ -107,7 +107,7 @@ impl<T: Term, N: Copy + Eq, D: Copy + Eq, C: Configs<N, D> + Drop> Checker<T, N,
             leaders: VecDeque::new(alloc),
             places: Places::new(alloc),
             committed: 0,
-            commits: Vec::new(alloc),
+            commits: Commits::new(alloc),
             alloc,
         })
     }
@@ -443,8 +443,8 @@ impl<T: Term, N: Copy + Eq, D: Copy + Eq, C: Configs<N, D> + Drop> Checker<T, N,
         requires { leader < deque_len self.old.leaders }
         ensures noted { OnOk result (IsNotedBy (tests_when self.old.counting T.Term N.PartialEq
             D.PartialEq C.Configs self.old.configs) (kept_by self.old) leader len counted_at
-            self.new.commits.items) }
-        ensures err { OnErr result (self.new.commits.items ≡ self.old.commits.items) }
+            self.new.commits) }
+        ensures err { OnErr result (self.new.commits ≡ self.old.commits) }
         ensures rest { self.new ≡ record self.old { commits = self.new.commits } }
     {
         if !is_applied(self.counting) {
@@ -493,7 +493,7 @@ impl<T: Term, N: Copy + Eq, D: Copy + Eq, C: Configs<N, D> + Drop> Checker<T, N,
 
 /// Whether a leader of a term of at most this rank has committed these entries. No leader has
 /// committed more entries than `most`. The search begins with the leader at position `near`.
-fn any_knows<T: Term, N: Copy + Eq, D: Copy + Eq>(
+fn any_knows<T: Term, N: Copy + Eq, D: Copy + Ord>(
     logs: &Logs<T, D>,
     leaders: &VecDeque<Leader<T, N>>,
     most: usize,
@@ -519,7 +519,7 @@ fn any_knows<T: Term, N: Copy + Eq, D: Copy + Eq>(
 
 /// Whether a leader of a term of at most this rank, at this position or a later one, has committed
 /// these entries.
-fn knows_from<T: Term, N: Copy + Eq, D: Copy + Eq>(
+fn knows_from<T: Term, N: Copy + Eq, D: Copy + Ord>(
     logs: &Logs<T, D>,
     leaders: &VecDeque<Leader<T, N>>,
     from: usize,

@@ -10,6 +10,7 @@ pub mod check;
 pub mod checker;
 pub mod entry;
 pub mod event;
+pub mod held;
 pub mod memberships;
 pub mod merge;
 pub mod term;

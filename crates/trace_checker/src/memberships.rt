@@ -10,23 +10,24 @@ ghost use Rattle.safety_laws.specs.Trace.{AreExact};
 ghost use Rattle.trace_checker.specs.Memberships.{EndsWith, configs_of, majorities_meet, meets_some, some_meet};
 
 use crate::checker::Configs;
+use crate::held::Held;
 use crate::term::Term;
 use raft_members::quorum::{Coherent, Joint, QuorumSet};
 use std::alloc::AllocError;
 
 /// Memberships, each a list of configs, and a config is a list of voters.
 #[derive(Debug, Drop)]
-pub struct Memberships<N, D> {
+pub struct Memberships<N, D: Ord> {
     /// The initial membership.
     pub initial: Vec<Vec<N>>,
     /// The memberships that entries hold, each with the content of its entry.
-    pub held: Vec<(D, Vec<Vec<N>>)>,
+    pub held: Held<N, D>,
 }
 
 /// A quorum is a majority of each config. Two memberships are known to have intersecting quorums if
 /// they share a config, or if any majorities of a config of one and of a config of the other share
 /// a server. So a membership may change to one whose config has one server more or less.
-impl<N: Copy + Ord, D: Copy + Eq> Configs<N, D> for Memberships<N, D> {
+impl<N: Copy + Ord, D: Copy + Ord> Configs<N, D> for Memberships<N, D> {
     ghost holds_config = { λ m d. list_any (λ p. D.eq p.0 d) m.held.items };
 
     ghost has_quorum = { λ m c s. list_all (λ q. is_majority N.eq q.items s) (configs_of D.eq
@@ -39,12 +40,7 @@ impl<N: Copy + Ord, D: Copy + Eq> Configs<N, D> for Memberships<N, D> {
         || some_meet N.eq (λ q. q.items) these others };
 
     fn holds_config(&self, content: D) -> bool {
-        for m in &self.held {
-            if m.0 == content {
-                return true;
-            }
-        }
-        false
+        self.held.get(content).is_some()
     }
 
     fn is_quorum(&self, config: Option<D>, servers: &[N]) -> bool
@@ -69,7 +65,7 @@ impl<N: Copy + Ord, D: Copy + Eq> Configs<N, D> for Memberships<N, D> {
     }
 }
 
-impl<N: Copy + Ord, D: Copy + Eq> Memberships<N, D> {
+impl<N: Copy + Ord, D: Copy + Ord> Memberships<N, D> {
     /// Adds the membership that entries of a content hold.
     ///
     /// # Errors
@@ -81,19 +77,14 @@ impl<N: Copy + Ord, D: Copy + Eq> Memberships<N, D> {
         ensures initial { self.new.initial ≡ self.old.initial }
         ensures err { OnErr result (self.new.held.items ≡ self.old.held.items) }
     {
-        self.held.push((content, configs))?;
-        Ok(())
+        self.held.push(content, configs)
     }
 
     /// Returns the content of the membership that was added last.
     pub fn last_content(&self) -> Option<D>
         ensures { EndsWith self.now.held.items result }
     {
-        let count = self.held.len();
-        if count == 0 {
-            return None;
-        }
-        Some(self.held[count - 1].0)
+        self.held.last_content()
     }
 
     /// Removes the membership that was added last.
@@ -113,12 +104,10 @@ impl<N: Copy + Ord, D: Copy + Eq> Memberships<N, D> {
         let Some(content) = config else {
             return &self.initial;
         };
-        for m in &self.held {
-            if m.0 == content {
-                return &m.1;
-            }
+        match self.held.get(content) {
+            Some(configs) => configs,
+            None => &self.initial[..0],
         }
-        &self.initial[..0]
     }
 }
 
@@ -163,7 +152,7 @@ fn do_majorities_meet<N: Copy + Ord>(config: &[N], other: &[N]) -> bool
 /// The premise of the contract of a checker, for memberships of the layer: if terms, ids and
 /// contents that are `==` are equal, the tests by which a checker compares them are exact, and
 /// quorums intersect where `do_intersect` says so.
-pub fn memberships_are_exact<T: Term, N: Copy + Ord, D: Copy + Eq>(memberships: &Memberships<N, D>)
+pub fn memberships_are_exact<T: Term, N: Copy + Ord, D: Copy + Ord>(memberships: &Memberships<N, D>)
     ensures { ((x y : T) → T.eq x y ≡ true → x ≡ y) → ((x y : N) → N.eq x y ≡ true → x ≡ y)
         → ((x y : D) → D.eq x y ≡ true → x ≡ y) → AreExact (tests_of T.Term
         N.PartialEq D.PartialEq ⟦<Memberships<N, D> as Configs<N, D>>⟧ memberships.now) }

@@ -38,7 +38,7 @@ pub struct Unplaced {
 ///
 /// The events that could not be placed, if the next event of every list is refused after the placed
 /// ones, or out of memory. It is not proved that every other order is refused too.
-pub fn check_each<T: Term, N: Copy + Eq, D: Copy + Eq, C: Configs<N, D> + Drop>(
+pub fn check_each<T: Term, N: Copy + Eq, D: Copy + Ord, C: Configs<N, D> + Drop>(
     alloc: Global,
     configs: C,
     lists: &[Vec<Event<T, N, D>>],
@@ -60,7 +60,7 @@ pub fn check_each<T: Term, N: Copy + Eq, D: Copy + Eq, C: Configs<N, D> + Drop>(
 /// # Errors
 ///
 /// The errors of `check_each`.
-pub fn check_each_counting<T: Term, N: Copy + Eq, D: Copy + Eq, C: Configs<N, D> + Drop>(
+pub fn check_each_counting<T: Term, N: Copy + Eq, D: Copy + Ord, C: Configs<N, D> + Drop>(
     alloc: Global,
     counting: ConfigsCount,
     configs: C,
@@ -111,7 +111,7 @@ pub fn check_each_counting<T: Term, N: Copy + Eq, D: Copy + Eq, C: Configs<N, D>
 ///
 /// The first list that has a next event, and the rule that this event breaks, if the next event of
 /// every list is refused. Or out of memory. Nothing is placed then.
-fn record_next<T: Term, N: Copy + Eq, D: Copy + Eq, C: Configs<N, D> + Drop>(
+fn record_next<T: Term, N: Copy + Eq, D: Copy + Ord, C: Configs<N, D> + Drop>(
     checker: &mut Checker<T, N, D, C>,
     lists: &[Vec<Event<T, N, D>>],
     placed: &mut [usize],

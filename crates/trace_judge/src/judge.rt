@@ -26,6 +26,7 @@ use serde_json::Value;
 use std::alloc::Global;
 use trace_checker::checker::{Checker, LearnError, Violation};
 use trace_checker::event::Event;
+use trace_checker::held::Held;
 use trace_checker::memberships::{Memberships, memberships_are_exact};
 
 /// Judges one line after the other.
@@ -58,7 +59,7 @@ pub fn start(alloc: Global, line: &[u8], is_drawn: bool, is_alone: bool) -> Resu
     };
     let counts = Counts::new(alloc, &initial)?;
     let chart = Chart::start(alloc, line, first, &initial, is_drawn, is_alone)?;
-    let held = Vec::new(alloc);
+    let held = Held::new(alloc);
     let memberships = Memberships { initial, held };
     memberships_are_exact::<u64, u64, u64>(&memberships);
     let checker = Checker::counting(alloc, counting, memberships)?;
@@ -380,10 +381,5 @@ fn membership(
 fn held_by(checker: &Checking, content: u64) -> Option<&Vec<Vec<u64>>>
     ensures { IfSome result (λ v. IsAmong (content, v.now) (configs_of checker.now).held.items) }
 {
-    for membership in &checker.configs().held {
-        if membership.0 == content {
-            return Some(&membership.1);
-        }
-    }
-    None
+    checker.configs().held.get(content)
 }

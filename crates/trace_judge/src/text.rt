@@ -13,7 +13,7 @@ use trace_checker::checker::Violation;
 /// Writes the answer that a run is safe, and what was left out or filled in, if anything was.
 pub fn push_safe(alloc: Global, answer: &mut String, judge: &Judge) -> Result<(), AllocError> {
     let counts = &judge.counts;
-    let held = &judge.checker.configs().held;
+    let held = judge.checker.configs().held.as_slice();
     let servers = counts.server_count(alloc, held)? as u64;
     let terms = counts.leaders.len() as u64;
     let changes = held.len() as u64;

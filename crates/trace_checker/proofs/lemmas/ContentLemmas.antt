@@ -1,11 +1,26 @@
 -- Logs that have no entry of a content.
-use Rattle.std.specs.Prelude.{◌≡◌, ◌⊎◌, ◌+◌, ◌<◌, ◌≤◌, ℕ, zero, suc, Bool, true, false, Option, Some, None, List, [], ◌∷◌, ◌++◌, length, take, drop}
-use Rattle.std.specs.Option.{option_or}
+use Rattle.std.specs.Prelude.{◌≡◌, ◌⊎◌, ◌+◌, ◌<◌, ◌≤◌, ◌||◌, ℕ, zero, suc, Bool, true, false, List, [], ◌∷◌, ◌++◌, length, take, drop}
+use Rattle.std.specs.BTreeMap.{is_at}
+use Rattle.std.specs.List.{list_any}
+use Rattle.std.specs.declared.cmp.Ordering.{Ordering}
 use Rattle.std.proofs.Common.{refl, sym, ap, ◌∙◌, subst, inl, inr, arith}
 use Rattle.std.proofs.lemmas.Bool.{cases_lt}
+use Rattle.std.proofs.lemmas.List.{get_or_past}
+use Rattle.std.proofs.lemmas.List.Folds.{list_any-append}
+use Rattle.std.proofs.Math.Bool.{or-false}
 use Rattle.safety_laws.specs.Log.{Entry}
-use Rattle.trace_checker.specs.Inner.Logs.{AllLogs, HasParent, IsTree, LackContent, has_last, last_entry, log_at}
-use Rattle.trace_checker.proofs.lemmas.LogTreeLemmas.{last_push}
+use Rattle.trace_checker.specs.Inner.Logs.{AllLogs, AreWithout, LackContent, and_log, log_at, no_logs}
+use Rattle.trace_checker.specs.Inner.Nodes.{AreContents, logs_after, logs_of}
+use Rattle.trace_checker.specs.declared.checker.node.Node.{Node}
+use Rattle.trace_checker.proofs.lemmas.LogTreeLemmas.{logs_after_at, logs_after_len, longer, new_log, same_log}
+
+neither : (a b : Bool) → (a || b) ≡ false → (a ≡ false) × (b ≡ false)
+neither true b h = absurd (cc)
+neither false b h = (refl, h)
+
+pub not_both : (b : Bool) → b ≡ true → b ≡ false → ⊥
+not_both true h e = absurd (cc)
+not_both false h e = absurd (cc)
 
 module _ {T D : Type 0} (same : D → D → Bool) (d : D) where
   pub lack_take : (n : ℕ) (log : List (Entry T D)) → LackContent same d log → LackContent same d (take n log)
@@ -26,43 +41,65 @@ module _ {T D : Type 0} (same : D → D → Bool) (d : D) where
   lack_second [] b h = h
   lack_second (e ∷ a) b h = lack_second a b h.1
 
-  pub lack_last : (log : List (Entry T D)) → LackContent same d log → has_last same d (last_entry log) ≡ false
-  lack_last [] h = refl
-  lack_last (e ∷ log) h = go (last_entry log) (lack_last log h.1)
+  -- one log more, whose last entry is not of the content
+  lack_added : (t : AllLogs T D) (parent config : ℕ) (e : Entry T D) → AreWithout same t d
+      → same d e.content ≡ false → AreWithout same (and_log t (log_at t parent ++ e ∷ []) config) d
+  lack_added t parent config e before apart i within = go (cases_lt i (length t.logs))
     where
-      go : (o : Option (Entry T D)) → has_last same d o ≡ false
-          → has_last same d (option_or o (Some e)) ≡ false
-      go None x = h.0
-      go (Some f) x = x
+      first : (parent < length t.logs) ⊎ (length t.logs ≤ parent) → LackContent same d (log_at t parent)
+      first (inl h) = before parent h
+      first (inr h) = subst (LackContent same d) (sym (get_or_past t.logs parent [] h)) tt
 
-  pub lack_not_last : (log : List (Entry T D)) → LackContent same d log → has_last same d (last_entry log) ≡ true → ⊥
-  lack_not_last log h e = go (has_last same d (last_entry log)) (lack_last log h) e
+      go : (i < length t.logs) ⊎ (length t.logs ≤ i)
+          → LackContent same d (log_at (and_log t (log_at t parent ++ e ∷ []) config) i)
+      go (inl h) = subst (LackContent same d) (sym (same_log t (log_at t parent ++ e ∷ []) config i h)) (before i h)
+      go (inr h) =
+          let more = longer t (log_at t parent ++ e ∷ []) config in
+          let at : length t.logs ≡ i = omega (arith, h, within, more) in
+          subst (LackContent same d) (sym (new_log t (log_at t parent ++ e ∷ []) config i at))
+          (lack_append (log_at t parent) (e ∷ []) (first (cases_lt parent (length t.logs))) (apart, tt))
+
+  lack_after : (t : AllLogs T D) (ns : List (Node T D)) → AreWithout same t d
+      → list_any (λ n. same d n.entry.content) ns ≡ false → AreWithout same (logs_after t ns) d
+  lack_after t [] before none = before
+  lack_after t (n ∷ ns) before none =
+      let both = neither (same d n.entry.content) (list_any (λ m. same d m.entry.content) ns) none in
+      lack_after (and_log t (log_at t n.parent ++ n.entry ∷ []) n.config) ns
+      (lack_added t n.parent n.config n.entry before both.0) both.1
+
+  not_after : (t : AllLogs T D) (ns : List (Node T D)) → AreWithout same (logs_after t ns) d
+      → list_any (λ n. same d n.entry.content) ns ≡ false
+  not_after t [] without = refl
+  not_after t (n ∷ ns) without =
+      let log : List (Entry T D) = log_at t n.parent ++ n.entry ∷ [] in
+      let t2 : AllLogs T D = and_log t log n.config in
+      let more : length t2.logs ≡ length t.logs + 1 = longer t log n.config in
+      let all : length (logs_after t2 ns).logs ≡ length t2.logs + length ns = logs_after_len t2 ns in
+      let is : log_at (logs_after t2 ns) (length t.logs) ≡ log =
+      logs_after_at t2 ns (length t.logs) (omega (arith, more)) ∙ new_log t log n.config (length t.logs) refl in
+      let here : LackContent same d log = subst (LackContent same d) is (without (length t.logs) (omega (arith, more, all))) in
+      let apart : same d n.entry.content ≡ false = (lack_second (log_at t n.parent) (n.entry ∷ []) here).0 in
+      λ q. apart q || not_after t2 ns without q
+
+  -- no log has an entry of the content exactly if no node has
+  pub lack_nodes : (ns : List (Node T D)) → list_any (λ n. same d n.entry.content) ns ≡ false
+      → AreWithout same (logs_of ns) d
+  lack_nodes ns none = lack_after no_logs ns empty none
     where
-      go : (b : Bool) → b ≡ false → b ≡ true → ⊥
-      go true x y = absurd (cc)
-      go false x y = absurd (cc)
+      empty : AreWithout {T = T} same no_logs d
+      empty i within =
+          let at : 0 ≡ i = omega (arith, within) in subst (λ j. LackContent {T = T} same d (log_at no_logs j)) at tt
 
-  -- none of the first logs of a tree has the content, and neither has the last entry of the next one
-  pub lack_next : (t : AllLogs T D) (i : ℕ) → IsTree t → i + 1 < length t.logs
-      → ((j : ℕ) → j ≤ i → LackContent same d (log_at t j))
-      → has_last same d (last_entry (log_at t (i + 1))) ≡ false
-      → (j : ℕ) → j ≤ i + 1 → LackContent same d (log_at t j)
-  lack_next t i tree within before last j h = go (cases_lt j (i + 1))
-    where
-      up : HasParent t (i + 1)
-      up = tree (i + 1) (omega arith) within
+  pub no_node_of : (ns : List (Node T D)) → AreWithout same (logs_of ns) d
+      → list_any (λ n. same d n.entry.content) ns ≡ false
+  no_node_of ns without = not_after no_logs ns without
 
-      apart : same d up.entry.content ≡ false
-      apart =
-          ap (has_last same d) (sym (last_push (log_at t up.parent) up.entry))
-          ∙ ap (λ l. has_last same d (last_entry l)) (sym up.is) ∙ last
-
-      here : LackContent same d (log_at t (i + 1))
-      here =
-          subst (LackContent same d) (sym up.is)
-          (lack_append (log_at t up.parent) (up.entry ∷ []) (before up.parent (omega (arith, up.earlier))) (apart, tt))
-
-      go : (j < i + 1) ⊎ (i + 1 ≤ j) → LackContent same d (log_at t j)
-      go (inl lt) = before j (omega (arith, lt))
-      go (inr ge) =
-          let e : i + 1 ≡ j = omega (arith, ge, h) in subst (λ x. LackContent same d (log_at t x)) e here
+-- the contents of nodes after a node is added
+pub contents_push : {T D : Type 0} (same : D → D → Bool) (cmp : D → D → Ordering) (old new : List D) (ns : List (Node T D))
+    (n : Node T D) (content : D) → content ≡ n.entry.content → AreContents same cmp old ns
+    → ((d : D) → list_any (is_at (cmp d)) new ≡ (list_any (is_at (cmp d)) old || same d content))
+    → AreContents same cmp new (ns ++ n ∷ [])
+contents_push same cmp old new ns n content is are added d =
+    added d ∙ (λ q. are d q || same d (is q))
+    ∙ ap (λ b. list_any (λ m. same d m.entry.content) ns || b) (sym (or-false (same d n.entry.content)))
+    ∙ sym (list_any-append (λ m. same d m.entry.content) ns (n ∷ []))

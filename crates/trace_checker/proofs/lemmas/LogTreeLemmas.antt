@@ -47,7 +47,7 @@ module _ {T D : Type 0} where
       ≡ and_log (logs_of ns) (log_at (logs_of ns) n.parent ++ n.entry ∷ []) n.config
   logs_push ns n = logs_after_push no_logs ns n
 
-  logs_after_len : (t : AllLogs T D) (ns : List (Node T D))
+  pub logs_after_len : (t : AllLogs T D) (ns : List (Node T D))
       → length (logs_after t ns).logs ≡ length t.logs + length ns
   logs_after_len t [] = omega arith
   logs_after_len t (n ∷ ns) =
@@ -72,7 +72,7 @@ module _ {T D : Type 0} where
   configs_len ns =
       let e : length (logs_of ns).configs ≡ 1 + length ns = configs_after_len no_logs ns in omega (arith, e)
 
-  logs_after_at : (t : AllLogs T D) (ns : List (Node T D)) (i : ℕ) → i < length t.logs
+  pub logs_after_at : (t : AllLogs T D) (ns : List (Node T D)) (i : ℕ) → i < length t.logs
       → log_at (logs_after t ns) i ≡ log_at t i
   logs_after_at t [] i h = refl
   logs_after_at t (n ∷ ns) i h =

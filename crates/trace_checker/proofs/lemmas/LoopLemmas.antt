@@ -1,5 +1,5 @@
 -- Loops over lists, and indexes that they find.
-use Rattle.std.specs.Prelude.{◌≡◌, ◌+◌, ◌<◌, ◌≤◌, ℕ, zero, suc, nat_lt, Bool, true, false, ◌&&◌, ◌||◌, nat_le, if◌then◌else◌, Some, None, List, [], ◌∷◌, ◌++◌, length, map, drop, get_or}
+use Rattle.std.specs.Prelude.{◌≡◌, ◌+◌, ◌<◌, ◌≤◌, ℕ, zero, suc, nat_lt, Bool, true, false, ◌&&◌, ◌||◌, nat_le, if◌then◌else◌, Some, None, List, [], ◌∷◌, ◌++◌, length, drop, get_or}
 use Rattle.std.specs.List.{list_any, position, position_or_len}
 use Rattle.std.specs.Option.{unwrap_or}
 use Rattle.std.proofs.Common.{refl, sym, ap, subst, ◌∙◌, arith}
@@ -9,7 +9,6 @@ use Rattle.std.proofs.lemmas.List.Folds.{list_any-append}
 use Rattle.std.proofs.Math.Bool.{or-false}
 use Rattle.trace_checker.specs.Inner.CheckerState.{has_acked_to}
 use Rattle.trace_checker.specs.declared.checker.leader.Acked.{Acked}
-use Rattle.trace_checker.specs.Memberships.{held_by}
 
 -- if an element fails, some element passes exactly if one of the later elements does
 pub any_later : {X : Type 0} {r : Bool} (p : X → Bool) (xs : List X) (i : ℕ) (x : X) → i < length xs
@@ -38,33 +37,6 @@ any_after p [] (suc i) h = h
 any_after p (x ∷ xs) zero h = h
 any_after p (x ∷ xs) (suc i) h =
     sym (or_right (p x) (list_any p xs) (sym (any_after p xs i h)))
-
--- if an element has another content, a later element holds the membership of the content
-pub held_later : {X Q D : Type 0} (same : D → D → Bool) (d : D) (f : X → D × List Q) (xs : List X)
-    (i : ℕ) (x : X) → i < length xs → x ≡ get_or xs i x → same (f x).0 d ≡ false
-    → held_by same d (map f (drop i xs)) ≡ held_by same d (map f xs)
-    → held_by same d (map f (drop (i + 1) xs)) ≡ held_by same d (map f xs)
-held_later same d f xs i x h is fails so_far =
-    ap (λ b. if b then (f x).1 else held_by same d (map f (drop (i + 1) xs))) (sym fails)
-    ∙ ap (λ y. held_by same d (map f (y ∷ drop (i + 1) xs))) is
-    ∙ ap (λ l. held_by same d (map f l)) (sym (drop_more xs i x h)) ∙ so_far
-
--- if an element has the content, it holds the membership of the content
-pub held_here : {X Q D : Type 0} (same : D → D → Bool) (d : D) (f : X → D × List Q) (xs : List X)
-    (i : ℕ) (x : X) → i < length xs → x ≡ get_or xs i x → same (f x).0 d ≡ true
-    → held_by same d (map f (drop i xs)) ≡ held_by same d (map f xs)
-    → (f x).1 ≡ held_by same d (map f xs)
-held_here same d f xs i x h is passes so_far =
-    ap (λ b. if b then (f x).1 else held_by same d (map f (drop (i + 1) xs))) (sym passes)
-    ∙ ap (λ y. held_by same d (map f (y ∷ drop (i + 1) xs))) is
-    ∙ ap (λ l. held_by same d (map f l)) (sym (drop_more xs i x h)) ∙ so_far
-
--- if no element is left and none has had the content, the content has no membership
-pub held_nowhere : {X Q D : Type 0} (same : D → D → Bool) (d : D) (f : X → D × List Q) (xs : List X)
-    (i : ℕ) → length xs ≤ i → held_by same d (map f (drop i xs)) ≡ held_by same d (map f xs)
-    → [] ≡ held_by same d (map f xs)
-held_nowhere same d f xs i h so_far =
-    sym (ap (λ l. held_by same d (map f l)) (drop_all i xs h)) ∙ so_far
 
 -- what servers have acknowledged, after an acknowledgement is added
 pub acked_push : {N : Type 0} (eq : N → N → Bool) (acks new : List (Acked N)) (server : N) (len : ℕ)

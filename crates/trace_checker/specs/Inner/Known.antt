@@ -1,5 +1,5 @@
 -- What the checker knows to be committed, if configs count once they are applied.
-use Rattle.std.specs.Prelude.{◌≡◌, ℕ, Bool, true, false, not, ◌&&◌, ◌||◌, nat_lt, nat_eq, Option, List, [], ◌∷◌, length, take, drop}
+use Rattle.std.specs.Prelude.{◌≡◌, ◌≤◌, ℕ, Bool, true, false, not, ◌&&◌, ◌||◌, nat_lt, nat_eq, Option, List, [], ◌∷◌, length, take, drop}
 use Rattle.std.specs.List.{list_any}
 use Rattle.safety_laws.specs.Log.{Entry}
 use Rattle.safety_laws.specs.AppliedTrace.{hold_at_most_one, is_shorter, some_upto}
@@ -19,6 +19,11 @@ pub record CommitState (T D : Type 0) : Type 0 where
 -- what is kept of a commit, with the entries of its log
 abbrev pub commit_in : {T D : Type 0} → AllLogs T D → Commit → CommitState T D
 commit_in logs c = record { rank = c.rank; counted_at = c.counted_at; entries = log_at logs c.log }
+
+-- no commit has a log with a number that is greater than this one
+abbrev pub AreUpTo : ℕ → List Commit → Type 0
+AreUpTo n [] = Unit {0}
+AreUpTo n (c ∷ commits) = (c.log ≤ n) × AreUpTo n commits
 
 -- configs count once they are applied
 abbrev pub is_applied : ConfigsCount → Bool

@@ -37,11 +37,6 @@ module _ {T D : Type 0} where
   last_entry [] = None
   last_entry (e ∷ es) = option_or (last_entry es) (Some e)
 
-  -- the entry has this content, if there is one
-  abbrev pub has_last : (D → D → Bool) → D → Option (Entry T D) → Bool
-  has_last same d None = false
-  has_last same d (Some e) = same d e.content
-
   -- no two logs are equal
   abbrev pub AreDistinct : AllLogs T D → Type 0
   AreDistinct t =

@@ -1,5 +1,8 @@
 -- The nodes of a tree of logs.
-use Rattle.std.specs.Prelude.{◌≡◌, ◌<◌, ◌≤◌, ◌+◌, ℕ, List, [], ◌∷◌, ◌++◌, length, take, get_or}
+use Rattle.std.specs.Prelude.{◌≡◌, ◌<◌, ◌≤◌, ◌+◌, ℕ, Bool, List, [], ◌∷◌, ◌++◌, length, take, get_or}
+use Rattle.std.specs.BTreeMap.{is_at}
+use Rattle.std.specs.List.{list_any}
+use Rattle.std.specs.declared.cmp.Ordering.{Ordering}
 use Rattle.trace_checker.specs.Inner.Logs.{AllLogs, log_at, config_at, and_log, no_logs}
 use Rattle.trace_checker.specs.declared.checker.node.Node.{Node}
 
@@ -27,3 +30,8 @@ module _ {T D : Type 0} where
   AreNodes nodes =
       (i : ℕ) (n : Node T D) → i < length nodes → n ≡ get_or nodes i n
       → IsNode (logs_of nodes) (i + 1) n
+
+  -- a content is in a set exactly if it is that of the entry of a node
+  abbrev pub AreContents : (D → D → Bool) → (D → D → Ordering) → List D → List (Node T D) → Type 0
+  AreContents same cmp contents nodes =
+      (d : D) → list_any (is_at (cmp d)) contents ≡ list_any (λ n. same d n.entry.content) nodes

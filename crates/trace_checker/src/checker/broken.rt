@@ -9,7 +9,7 @@ ghost use Rattle.trace_checker.specs.Inner.CheckerState.{ack_rule, append_rule, 
 
 use super::configs::Configs;
 use super::counting::is_applied;
-use super::known::{Commit, follows_at_most_one, is_known};
+use super::known::{Commits, follows_at_most_one, is_known};
 use super::leader::Leader;
 use super::logs::Logs;
 use super::server::Server;
@@ -19,7 +19,7 @@ use safety_laws::counting::ConfigsCount;
 use safety_laws::rule::Rule;
 
 /// Returns the rule that a vote for a candidate breaks, if there is one.
-pub fn grant_rule<T: Term, N: Copy + Eq, D: Copy + Eq>(
+pub fn grant_rule<T: Term, N: Copy + Eq, D: Copy + Ord>(
     logs: &Logs<T, D>,
     server: &Server<N>,
     leader: &Leader<T, N>,
@@ -43,7 +43,7 @@ pub fn grant_rule<T: Term, N: Copy + Eq, D: Copy + Eq>(
 }
 
 /// Whether a log is at least as up to date as another.
-fn is_up_to_date<T: Term, D: Copy + Eq>(logs: &Logs<T, D>, log: usize, other: usize) -> bool
+fn is_up_to_date<T: Term, D: Copy + Ord>(logs: &Logs<T, D>, log: usize, other: usize) -> bool
     ensures { result ≡ up_to_date_by T.rank (log_at logs.now log) (log_at logs.now other) }
 {
     let last = last_term(logs, log);
@@ -52,7 +52,7 @@ fn is_up_to_date<T: Term, D: Copy + Eq>(logs: &Logs<T, D>, log: usize, other: us
 }
 
 /// Returns the rank of the term of the last entry, 0 for an empty log.
-fn last_term<T: Term, D: Copy + Eq>(logs: &Logs<T, D>, log: usize) -> u128
+fn last_term<T: Term, D: Copy + Ord>(logs: &Logs<T, D>, log: usize) -> u128
     ensures { result ≡ last_term T.rank (log_at logs.now log) }
 {
     match logs.last(log) {
@@ -63,7 +63,7 @@ fn last_term<T: Term, D: Copy + Eq>(logs: &Logs<T, D>, log: usize) -> u128
 
 /// Returns the rule that a server breaks by keeping so many entries and appending these, if there
 /// is one.
-pub fn append_rule<T: Term, N: Copy + Eq, D: Copy + Eq>(
+pub fn append_rule<T: Term, N: Copy + Eq, D: Copy + Ord>(
     logs: &Logs<T, D>,
     server: &Server<N>,
     leader: &Leader<T, N>,
@@ -98,7 +98,7 @@ pub fn append_rule<T: Term, N: Copy + Eq, D: Copy + Eq>(
 
 /// Returns the log of a server that keeps so many entries and appends these, if this breaks no
 /// rule. It is a prefix of the server's or of the leader's log.
-pub fn next_log<T: Term, N: Copy + Eq, D: Copy + Eq>(
+pub fn next_log<T: Term, N: Copy + Eq, D: Copy + Ord>(
     logs: &Logs<T, D>,
     server: &Server<N>,
     leader: &Leader<T, N>,
@@ -120,7 +120,7 @@ pub fn next_log<T: Term, N: Copy + Eq, D: Copy + Eq>(
 }
 
 /// Returns the rule that an acknowledgement breaks, if there is one.
-pub fn ack_rule<T: Term, N: Copy + Eq, D: Copy + Eq>(
+pub fn ack_rule<T: Term, N: Copy + Eq, D: Copy + Ord>(
     logs: &Logs<T, D>,
     server: &Server<N>,
     leader: &Leader<T, N>,
@@ -148,7 +148,7 @@ pub fn ack_rule<T: Term, N: Copy + Eq, D: Copy + Eq>(
 
 /// Returns the rule that a server breaks by applying entries, if there is one besides that they are
 /// committed.
-pub fn apply_rule<T: Term, N: Copy + Eq, D: Copy + Eq>(
+pub fn apply_rule<T: Term, N: Copy + Eq, D: Copy + Ord>(
     logs: &Logs<T, D>,
     server: &Server<N>,
     leader: &Leader<T, N>,
@@ -168,7 +168,7 @@ pub fn apply_rule<T: Term, N: Copy + Eq, D: Copy + Eq>(
 }
 
 /// Returns the rule that a restart with so many entries breaks, if there is one.
-pub fn restart_rule<T: Term, N: Copy + Eq, D: Copy + Eq>(
+pub fn restart_rule<T: Term, N: Copy + Eq, D: Copy + Ord>(
     logs: &Logs<T, D>,
     server: &Server<N>,
     len: usize,
@@ -185,7 +185,7 @@ pub fn restart_rule<T: Term, N: Copy + Eq, D: Copy + Eq>(
 }
 
 /// Returns the rule that a leader breaks by writing an entry, if there is one.
-pub fn write_rule<T: Term, N: Copy + Eq, D: Copy + Eq, C: Configs<N, D>>(
+pub fn write_rule<T: Term, N: Copy + Eq, D: Copy + Ord, C: Configs<N, D>>(
     counting: ConfigsCount,
     configs: &C,
     logs: &Logs<T, D>,
@@ -205,7 +205,7 @@ pub fn write_rule<T: Term, N: Copy + Eq, D: Copy + Eq, C: Configs<N, D>>(
 
 /// Returns the rule that a leader breaks by proposing the config of a content, if it holds one and
 /// there is such a rule.
-fn config_rule<T: Term, N: Copy + Eq, D: Copy + Eq, C: Configs<N, D>>(
+fn config_rule<T: Term, N: Copy + Eq, D: Copy + Ord, C: Configs<N, D>>(
     counting: ConfigsCount,
     configs: &C,
     logs: &Logs<T, D>,
@@ -236,10 +236,10 @@ fn config_rule<T: Term, N: Copy + Eq, D: Copy + Eq, C: Configs<N, D>>(
 }
 
 /// Returns the rule that a commit breaks, if there is one besides the acknowledgements of a quorum.
-pub fn commit_rule<T: Term, N: Copy + Eq, D: Copy + Eq>(
+pub fn commit_rule<T: Term, N: Copy + Eq, D: Copy + Ord>(
     counting: ConfigsCount,
     logs: &Logs<T, D>,
-    commits: &[Commit],
+    commits: &Commits,
     leader: &Leader<T, N>,
     len: usize,
     counted_at: usize,
@@ -269,9 +269,9 @@ pub fn commit_rule<T: Term, N: Copy + Eq, D: Copy + Eq>(
 
 /// Returns the rule that a commit breaks, if configs count once they are applied and there is one
 /// besides the acknowledgements of a quorum.
-fn known_commit_rule<T: Term, N: Copy + Eq, D: Copy + Eq>(
+fn known_commit_rule<T: Term, N: Copy + Eq, D: Copy + Ord>(
     logs: &Logs<T, D>,
-    commits: &[Commit],
+    commits: &Commits,
     leader: &Leader<T, N>,
     len: usize,
     counted_at: usize,
@@ -302,7 +302,7 @@ fn known_commit_rule<T: Term, N: Copy + Eq, D: Copy + Eq>(
 }
 
 /// Whether a leader of a term of at most this rank has committed these entries.
-pub fn knows<T: Term, N: Copy + Eq, D: Copy + Eq>(
+pub fn knows<T: Term, N: Copy + Eq, D: Copy + Ord>(
     logs: &Logs<T, D>,
     leader: &Leader<T, N>,
     rank: u128,

@@ -16,7 +16,8 @@ use super::leader::Leader;
 use super::logs::Logs;
 use crate::term::Term;
 use safety_laws::counting::ConfigsCount;
-use std::alloc::AllocError;
+use std::alloc::{AllocError, Global};
+use std::marker::Model;
 
 /// What a leader has committed.
 #[derive(Clone, Copy)]
@@ -29,9 +30,42 @@ pub struct Commit {
     pub log: usize,
 }
 
+/// What leaders have committed, the newest last.
+#[derive(Drop)]
+pub struct Commits {
+    list: Vec<Commit>,
+    /// No commit has a log with a greater number. By it most questions about a log that no commit
+    /// covers are answered without a search.
+    greatest: usize,
+}
+
+impl Model for Commits {
+    ghost use Rattle.std.specs.Prelude.{List};
+    ghost use Rattle.trace_checker.specs.Inner.Known.{AreUpTo};
+    ghost use Rattle.trace_checker.specs.declared.checker.known.Commit.{Commit};
+
+    ghost Value = { List Commit };
+
+    ghost view = { λ c. c.list.items };
+
+    ghost invariant = { λ c. AreUpTo c.greatest c.list.items };
+}
+
+impl Commits {
+    /// Returns no commits.
+    pub fn new(alloc: Global) -> Self
+        ensures { result ≡ [] }
+    {
+        Commits {
+            list: Vec::new(alloc),
+            greatest: 0,
+        }
+    }
+}
+
 /// Whether a commit covers all entries of a log, and is of an earlier term than this one, or of
 /// this one and counted at a shorter length.
-fn covers<T: Term, D: Copy + Eq>(
+fn covers<T: Term, D: Copy + Ord>(
     logs: &Logs<T, D>,
     commit: &Commit,
     rank: u128,
@@ -53,9 +87,9 @@ fn covers<T: Term, D: Copy + Eq>(
 
 /// Whether the last config of a log is known: the log has none, or a leader of an earlier term than
 /// this one has committed the log, or one of this term, counting at a shorter length.
-pub fn is_known<T: Term, D: Copy + Eq>(
+pub fn is_known<T: Term, D: Copy + Ord>(
     logs: &Logs<T, D>,
-    commits: &[Commit],
+    commits: &Commits,
     rank: u128,
     counted_at: usize,
     log: usize,
@@ -67,12 +101,16 @@ pub fn is_known<T: Term, D: Copy + Eq>(
     if logs.config(log) == 0 {
         return true;
     }
-    is_covered(logs, commits, rank, counted_at, log)
+    // A log begins only with logs of lesser numbers, so no commit covers this one.
+    if commits.greatest < log && log <= logs.count() {
+        return false;
+    }
+    is_covered(logs, &commits.list, rank, counted_at, log)
 }
 
 /// Whether a leader of an earlier term than this one has committed all entries of a log, or one of
 /// this term, counting at a shorter length.
-fn is_covered<T: Term, D: Copy + Eq>(
+fn is_covered<T: Term, D: Copy + Ord>(
     logs: &Logs<T, D>,
     commits: &[Commit],
     rank: u128,
@@ -94,7 +132,7 @@ fn is_covered<T: Term, D: Copy + Eq>(
 
 /// Returns the log up to the config before the last config of a log, the empty log if there is
 /// none.
-pub fn config_before<T: Term, D: Copy + Eq>(logs: &Logs<T, D>, log: usize) -> usize
+pub fn config_before<T: Term, D: Copy + Ord>(logs: &Logs<T, D>, log: usize) -> usize
     ensures config { (holds : D → Bool) → AreLogs holds logs.now → log < length logs.now.logs →
         result ≤ config_at logs.now log }
     ensures at_most_one { (holds : D → Bool) → AreLogs holds logs.now → log < length logs.now.logs →
@@ -108,7 +146,11 @@ pub fn config_before<T: Term, D: Copy + Eq>(logs: &Logs<T, D>, log: usize) -> us
 }
 
 /// Whether at most one config follows the first entries of a log.
-pub fn follows_at_most_one<T: Term, D: Copy + Eq>(logs: &Logs<T, D>, log: usize, len: usize) -> bool
+pub fn follows_at_most_one<T: Term, D: Copy + Ord>(
+    logs: &Logs<T, D>,
+    log: usize,
+    len: usize,
+) -> bool
     ensures { (holds : D → Bool) → AreLogs holds logs.now → log < length logs.now.logs → result
         ≡ at_most_one_in holds (drop len (log_at logs.now log)) }
 {
@@ -117,10 +159,10 @@ pub fn follows_at_most_one<T: Term, D: Copy + Eq>(logs: &Logs<T, D>, log: usize,
 
 /// Whether the config of a log is known to a candidate, and a quorum of it has voted for the
 /// candidate.
-fn is_elected_by<T: Term, N: Copy + Eq, D: Copy + Eq, C: Configs<N, D>>(
+fn is_elected_by<T: Term, N: Copy + Eq, D: Copy + Ord, C: Configs<N, D>>(
     configs: &C,
     logs: &Logs<T, D>,
-    commits: &[Commit],
+    commits: &Commits,
     leader: &Leader<T, N>,
     config: usize,
 ) -> bool
@@ -140,10 +182,10 @@ fn is_elected_by<T: Term, N: Copy + Eq, D: Copy + Eq, C: Configs<N, D>>(
 
 /// Whether a candidate is elected: by the last config of its log or by the one before it, if that
 /// one is known to it.
-fn is_elected_by_known<T: Term, N: Copy + Eq, D: Copy + Eq, C: Configs<N, D>>(
+fn is_elected_by_known<T: Term, N: Copy + Eq, D: Copy + Ord, C: Configs<N, D>>(
     configs: &C,
     logs: &Logs<T, D>,
-    commits: &[Commit],
+    commits: &Commits,
     leader: &Leader<T, N>,
 ) -> bool
     ensures { let k = tests_when WhenApplied T.Term N.PartialEq D.PartialEq C.Configs configs.now in
@@ -161,11 +203,11 @@ fn is_elected_by_known<T: Term, N: Copy + Eq, D: Copy + Eq, C: Configs<N, D>>(
 }
 
 /// Whether a candidate is elected by those who have voted for it.
-pub fn is_elected<T: Term, N: Copy + Eq, D: Copy + Eq, C: Configs<N, D>>(
+pub fn is_elected<T: Term, N: Copy + Eq, D: Copy + Ord, C: Configs<N, D>>(
     counting: ConfigsCount,
     configs: &C,
     logs: &Logs<T, D>,
-    commits: &[Commit],
+    commits: &Commits,
     leader: &Leader<T, N>,
 ) -> bool
     ensures { let k = tests_when counting T.Term N.PartialEq D.PartialEq C.Configs configs.now in
@@ -189,7 +231,26 @@ pub fn is_elected<T: Term, N: Copy + Eq, D: Copy + Eq, C: Configs<N, D>>(
 /// # Errors
 ///
 /// Out of memory. The commits are then as they were.
-pub fn note_commit<T: Term, D: Copy + Eq>(
+pub fn note_commit<T: Term, D: Copy + Ord>(
+    logs: &Logs<T, D>,
+    commits: &mut Commits,
+    commit: Commit,
+) -> Result<(), AllocError>
+    ensures noted { OnOk result (IsNoted (same_entry_by T.eq D.eq) logs.now commits.old
+        commit commits.new) }
+    ensures err { OnErr result (commits.new ≡ commits.old) }
+{
+    note_in(logs, &mut commits.list, commit)?;
+    commits.greatest = commits.greatest.max(commit.log);
+    Ok(())
+}
+
+/// Notes a commit in a list. If it continues the newest one, it takes the place of that one.
+///
+/// # Errors
+///
+/// Out of memory. The list is then as it was.
+fn note_in<T: Term, D: Copy + Ord>(
     logs: &Logs<T, D>,
     commits: &mut Vec<Commit>,
     commit: Commit,
@@ -209,7 +270,7 @@ pub fn note_commit<T: Term, D: Copy + Eq>(
 
 /// Whether a commit is of the same term as an earlier one, counted at the same length, and has all
 /// its entries.
-fn continues<T: Term, D: Copy + Eq>(logs: &Logs<T, D>, earlier: &Commit, commit: &Commit) -> bool
+fn continues<T: Term, D: Copy + Ord>(logs: &Logs<T, D>, earlier: &Commit, commit: &Commit) -> bool
     ensures { IsTrue result → Continues (same_entry_by T.eq D.eq) logs.now earlier.now commit.now }
 {
     if commit.rank != earlier.rank {

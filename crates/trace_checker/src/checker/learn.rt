@@ -33,7 +33,7 @@ impl From<AllocError> for LearnError {
     }
 }
 
-impl<T: Term, N: Copy + Ord, D: Copy + Eq> Checker<T, N, D, Memberships<N, D>> {
+impl<T: Term, N: Copy + Ord, D: Copy + Ord> Checker<T, N, D, Memberships<N, D>> {
     /// Learns which membership the entries of a content hold. An engine calls this before it
     /// records the first event that has such an entry.
     ///

@@ -1,8 +1,12 @@
 //! All logs, as a tree of entries.
+ghost use Rattle.std.specs.Prelude.{◌≡◌, ◌||◌, ◌++◌, ◌∷◌, [], OnErr, OnOk};
+ghost use Rattle.std.specs.BTreeMap.{is_at};
+ghost use Rattle.std.specs.List.{list_any};
 
 use super::node::{Node, same_entry};
 use crate::entry::Entry;
 use std::alloc::{AllocError, Global};
+use std::collections::BTreeSet;
 use std::marker::Model;
 
 /// The logs of servers and leaders. Logs that begin with the same entries share them.
@@ -10,26 +14,29 @@ use std::marker::Model;
 /// A log is a number. Log 0 is empty, and each other log is an earlier log, its parent, and one
 /// entry more. No two logs are equal. A number that is no log's stands for the empty log.
 #[derive(Drop)]
-pub struct Logs<T, D> {
+pub struct Logs<T, D: Ord> {
     nodes: Vec<Node<T, D>>,
+    /// The contents of all entries.
+    contents: BTreeSet<D>,
 }
 
-impl<T, D> Model for Logs<T, D> {
+impl<T, D: Ord> Model for Logs<T, D> {
     ghost use Rattle.trace_checker.specs.Inner.Logs.{AllLogs};
-    ghost use Rattle.trace_checker.specs.Inner.Nodes.{AreNodes, logs_of};
+    ghost use Rattle.trace_checker.specs.Inner.Nodes.{AreContents, AreNodes, logs_of};
 
     ghost Value = { AllLogs T D };
 
     ghost view = { λ t. logs_of t.nodes.items };
 
-    ghost invariant = { λ t. AreNodes t.nodes.items };
+    ghost invariant = { λ t. AreNodes t.nodes.items
+        × AreContents D.eq D.cmp t.contents.keys t.nodes.items };
 }
 
-impl<T: Copy + Eq, D: Copy + Eq> Logs<T, D> {
+impl<T: Copy + Eq, D: Copy + Ord> Logs<T, D> {
     ghost use Rattle.std.specs.Prelude.{◌≡◌, ◌+◌, ◌-◌, ◌^◌, ◌<◌, ◌≤◌, ◌++◌, ◌∷◌, if◌then◌else◌, ℕ, Bool, [], IfOk, IfSome, IsFalse, IsNone, IsTrue, None, OnErr, length, nat_eq, take, drop};
     ghost use Rattle.safety_laws.specs.Configs.{effective_config};
     ghost use Rattle.trace_checker.specs.Inner.CheckerState.{common_len, config_in, same_entry_by};
-    ghost use Rattle.trace_checker.specs.Inner.Logs.{AreDistinct, AreLogs, AreWithout, HasNoChild, IsChild, IsExact, IsTree, config_at, has_last, last_entry, log_at, no_logs};
+    ghost use Rattle.trace_checker.specs.Inner.Logs.{AreDistinct, AreLogs, AreWithout, HasNoChild, IsChild, IsExact, IsTree, config_at, last_entry, log_at, no_logs};
     ghost use Rattle.trace_checker.specs.Inner.Nodes.{IsNode};
 
     /// Returns the empty log alone.
@@ -38,6 +45,7 @@ impl<T: Copy + Eq, D: Copy + Eq> Logs<T, D> {
     {
         Logs {
             nodes: Vec::new(alloc),
+            contents: BTreeSet::new(alloc),
         }
     }
 
@@ -58,7 +66,7 @@ impl<T: Copy + Eq, D: Copy + Eq> Logs<T, D> {
     }
 
     /// Returns the number of logs that are not empty.
-    fn count(&self) -> usize
+    pub fn count(&self) -> usize
         ensures count { result + 1 ≡ length self.now.logs }
         ensures tree { IsTree self.now }
         ensures empty { log_at self.now 0 ≡ [] }
@@ -157,27 +165,12 @@ impl<T: Copy + Eq, D: Copy + Eq> Logs<T, D> {
         self.len(x)
     }
 
-    /// Whether the last entry of a log has this content.
-    fn ends_with(&self, log: usize, content: D) -> bool
-        ensures { result ≡ has_last D.eq content (last_entry (log_at self.now log)) }
-    {
-        match self.last(log) {
-            Some(entry) => content == entry.content,
-            None => false,
-        }
-    }
-
     /// Whether an entry of a log has this content.
     pub fn has_content(&self, content: D) -> bool
         ensures yes { IsTrue result → AreWithout D.eq self.now content → ⊥ }
         ensures no { IsFalse result → AreWithout D.eq self.now content }
     {
-        for i in 0..self.count() {
-            if self.ends_with(i + 1, content) {
-                return true;
-            }
-        }
-        false
+        self.contents.contains(&content)
     }
 
     /// Whether a log begins with another.
@@ -320,7 +313,33 @@ impl<T: Copy + Eq, D: Copy + Eq> Logs<T, D> {
             config: self.next_config(parent, is_config),
             entry,
         };
-        self.nodes.push(node)?;
+        add_node(&mut self.nodes, &mut self.contents, node, entry.content)?;
         Ok(next)
     }
+}
+
+/// Adds a node, and a content.
+///
+/// # Errors
+///
+/// Out of memory. The nodes and the contents are then as they were.
+fn add_node<T: Copy, D: Copy + Ord>(
+    nodes: &mut Vec<Node<T, D>>,
+    contents: &mut BTreeSet<D>,
+    node: Node<T, D>,
+    content: D,
+) -> Result<(), AllocError>
+    ensures nodes { OnOk result (nodes.new.items ≡ nodes.old.items ++ node ∷ []) }
+    ensures contents { OnOk result ((d : D) → list_any (is_at (D.cmp d)) contents.new.keys
+        ≡ (list_any (is_at (D.cmp d)) contents.old.keys || D.eq d content)) }
+    ensures err { OnErr result ((nodes.new.items ≡ nodes.old.items)
+        × (contents.new.keys ≡ contents.old.keys)) }
+{
+    nodes.reserve(1)?;
+    match contents.insert(content) {
+        Ok(_) => {}
+        Err(_) => return Err(AllocError),
+    }
+    nodes.push_reserved(node);
+    Ok(())
 }

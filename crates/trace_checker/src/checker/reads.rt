@@ -16,7 +16,7 @@ use crate::term::Term;
 use safety_laws::counting::ConfigsCount;
 use std::alloc::{AllocError, Global};
 
-impl<T: Term, N: Copy + Eq, D: Copy + Eq, C: Configs<N, D> + Drop> Checker<T, N, D, C> {
+impl<T: Term, N: Copy + Eq, D: Copy + Ord, C: Configs<N, D> + Drop> Checker<T, N, D, C> {
     /// Returns the entries after the first `from` of the log of a candidate or leader of a term, up
     /// to the first `len`, if it has campaigned and has so many. A server that installs a snapshot
     /// takes these entries, if it has the first `from` already.
@@ -176,7 +176,7 @@ impl<T: Term, N: Copy + Eq, D: Copy + Eq, C: Configs<N, D> + Drop> Checker<T, N,
 }
 
 /// Returns the last of so many first entries of a log, if it has so many.
-fn entry_at<T: Copy + Eq, D: Copy + Eq>(
+fn entry_at<T: Copy + Eq, D: Copy + Ord>(
     logs: &Logs<T, D>,
     log: usize,
     len: usize,

@@ -1,6 +1,11 @@
 -- Lines that a judge takes.
-use Rattle.std.specs.Prelude.{◌≡◌, ◌<◌, ℕ, length, get_or, Bool, List, [], ◌∷◌, ◌++◌, Option, Some, None, Result, Ok, Err, IfErr, IfOk, OnOk}
+use Rattle.std.specs.Prelude.{◌≡◌, ◌<◌, ℕ, nat_eq, length, get_or, Bool, true, false, cond, List, [], ◌∷◌, ◌++◌, Option, Some, None, IfSome, Result, Ok, Err, IfErr, IfOk, OnOk}
+use Rattle.std.specs.Borrow.{Bor}
+use Rattle.std.specs.Map.{lookup}
+use Rattle.std.specs.Option.{option_copied, unwrap_or}
 use Rattle.std.proofs.Common.{refl, sym, ap, subst, ◌∙◌, inl, inr, append_assoc, arith, zero, suc}
+use Rattle.std.proofs.lemmas.Bool.{eqb-true}
+use Rattle.std.proofs.lemmas.List.Elements.{All-append, All-cons, All-nil}
 use Rattle.std.specs.Global.{Vec}
 use Rattle.serde_json.specs.Data.{Data}
 use Rattle.serde_json.specs.Read.{read}
@@ -40,6 +45,22 @@ pub among_at : {X : Type 0} (xs : List X) (i : ℕ) (x : X) → i < length xs �
 among_at [] i x within is = absurd (omega arith)
 among_at (y ∷ ys) zero x within is = inl is
 among_at (y ∷ ys) (suc i) x within is = inr (among_at ys i x (omega arith) is)
+
+-- a membership that is looked up is one of the list
+among_found : {V : Type 0} (n : ℕ) (xs : List (ℕ × V)) (v : V) → Some v ≡ lookup (λ d. nat_eq d n) xs
+    → IsAmong (n, v) xs
+among_found n [] v is = absurd (cc)
+among_found n (x ∷ xs) v is = go (nat_eq x.0 n) refl (among_found n xs v) is
+  where
+    go : (b : Bool) → nat_eq x.0 n ≡ b → (Some v ≡ lookup (λ d. nat_eq d n) xs → IsAmong (n, v) xs)
+        → Some v ≡ cond b (Some x.1) (lookup (λ d. nat_eq d n) xs) → IsAmong (n, v) (x ∷ xs)
+    go true e rest h = inl (λ q. (sym (eqb-true x.0 n e) q, ap (λ o. unwrap_or o v) h q))
+    go false e rest h = inr (rest h)
+
+pub among_copied : {V : Type 0} (n : ℕ) (xs : List (ℕ × V)) (o : Option (Bor V))
+    → option_copied o ≡ lookup (λ d. nat_eq d n) xs → IfSome o (λ v. IsAmong (n, v.now) xs)
+among_copied n xs None is = tt
+among_copied n xs (Some v) is = among_found n xs v.now is
 
 -- a line says a membership if it says an equal one
 pub says_same : (number_of : Numbering) (d : Data) (e : TraceEvent ℕ ℕ ℕ) (n : ℕ) (a b : Vec (Vec ℕ))

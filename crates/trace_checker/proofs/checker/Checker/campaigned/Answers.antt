@@ -94,8 +94,8 @@ returns-clause-answer g c =
     c.in_ok-leader.ensures.term (c.in_ok-leader.ensures.start ∙ c.len-len.ensures.len)
     (c.in_ok-leader.ensures.log ∙ ap (λ (s : Server g.row.N.Denot). s.log) c.in_ok-make_room.ensures.rest)
     c.in_ok-leader.ensures.voters c.elect.ensures
-    (λ within distinct. rw c.deref.ensures.value at (c.is_elected-elected.ensures (exact_entries _ exact)
-    (logs_by (g.C.Configs.holds_config c.args.self.now.configs) c.args.self.now.logs keeps.are_logs) within distinct)))
+    (λ within distinct. c.is_elected-elected.ensures (exact_entries _ exact)
+    (logs_by (g.C.Configs.holds_config c.args.self.now.configs) c.args.self.now.logs keeps.are_logs) within distinct))
     (ap (λ (l : Leader g.row.T.Denot g.row.N.Denot). l.acked.items) c.elect.ensures ∙ c.in_ok-leader.ensures.acked)
     (record {
       term = ap (λ (l : Leader g.row.T.Denot g.row.N.Denot). l.term) c.elect.ensures ∙ c.in_ok-leader.ensures.term;

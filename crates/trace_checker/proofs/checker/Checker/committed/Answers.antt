@@ -21,11 +21,11 @@ returns-in-Some-commit_rule-clause-answer g c =
     c.in-Some.j
     c.index.result.now (g.C.Configs.holds_config c.args.self.now.configs) (λ d. refl)
     (c.in-Some.ensures.place exact es keeps).place c.index.ensures keeps)
-    (rw c.deref.ensures.value at (sym (c.in-Some-commit_rule.ensures (g.C.Configs.holds_config c.args.self.now.configs)
+    (sym (c.in-Some-commit_rule.ensures (g.C.Configs.holds_config c.args.self.now.configs)
     (exact_entries _ exact)
     (logs_by (g.C.Configs.holds_config c.args.self.now.configs) c.args.self.now.logs keeps.are_logs)
     (keeps.have_logs.of_leaders c.in-Some.j c.index.result.now
-    (found_within _ _ _ (c.in-Some.ensures.place exact es keeps).place) c.index.ensures))))
+    (found_within _ _ _ (c.in-Some.ensures.place exact es keeps).place) c.index.ensures)))
 
 pub returns-then-not-is_quorum-clause-answer : goal.returns-then-not-is_quorum-clause-answer
 returns-then-not-is_quorum-clause-answer g c =
@@ -39,11 +39,11 @@ returns-then-not-is_quorum-clause-answer g c =
     c.in-Some.j
     c.index.result.now (g.C.Configs.holds_config c.args.self.now.configs) (λ d. refl)
     (c.in-Some.ensures.place exact es keeps).place c.index.ensures keeps)
-    (rw c.deref.ensures.value at (sym (c.in-None-commit_rule.ensures (g.C.Configs.holds_config c.args.self.now.configs)
+    (sym (c.in-None-commit_rule.ensures (g.C.Configs.holds_config c.args.self.now.configs)
     (exact_entries _ exact)
     (logs_by (g.C.Configs.holds_config c.args.self.now.configs) c.args.self.now.logs keeps.are_logs)
     (keeps.have_logs.of_leaders c.in-Some.j c.index.result.now
-    (found_within _ _ _ (c.in-Some.ensures.place exact es keeps).place) c.index.ensures)))) c.in_ok-servers.ensures.servers
+    (found_within _ _ _ (c.in-Some.ensures.place exact es keeps).place) c.index.ensures))) c.in_ok-servers.ensures.servers
     (c.config_content-config.ensures (g.C.Configs.holds_config c.args.self.now.configs)
     (logs_by (g.C.Configs.holds_config c.args.self.now.configs) c.args.self.now.logs keeps.are_logs)
     (let own = keeps.have_logs.of_leaders c.in-Some.j c.index-3.result.now
@@ -51,7 +51,7 @@ returns-then-not-is_quorum-clause-answer g c =
     c.index-3.ensures in
     omega (arith, own, c.first.ensures.earlier))
     ∙ ap (λ x. effective_config (config_in (g.C.Configs.holds_config c.args.self.now.configs)) None x) c.first.ensures.first)
-    (rw c.deref-2.ensures.value at c.is_quorum.ensures c.in_ok-servers.ensures.distinct) c.if-not-is_quorum.true
+    (rw c.deref.ensures.value at c.is_quorum.ensures c.in_ok-servers.ensures.distinct) c.if-not-is_quorum.true
 
 pub returns-clause-answer : goal.returns-clause-answer
 returns-clause-answer g c =
@@ -65,11 +65,11 @@ returns-clause-answer g c =
     c.in-Some.j
     c.index.result.now (g.C.Configs.holds_config c.args.self.now.configs) (λ d. refl)
     (c.in-Some.ensures.place exact es keeps).place c.index.ensures keeps)
-    (rw c.deref.ensures.value at (sym (c.in-None-commit_rule.ensures (g.C.Configs.holds_config c.args.self.now.configs)
+    (sym (c.in-None-commit_rule.ensures (g.C.Configs.holds_config c.args.self.now.configs)
     (exact_entries _ exact)
     (logs_by (g.C.Configs.holds_config c.args.self.now.configs) c.args.self.now.logs keeps.are_logs)
     (keeps.have_logs.of_leaders c.in-Some.j c.index.result.now
-    (found_within _ _ _ (c.in-Some.ensures.place exact es keeps).place) c.index.ensures)))) c.in_ok-servers.ensures.servers
+    (found_within _ _ _ (c.in-Some.ensures.place exact es keeps).place) c.index.ensures))) c.in_ok-servers.ensures.servers
     (c.config_content-config.ensures (g.C.Configs.holds_config c.args.self.now.configs)
     (logs_by (g.C.Configs.holds_config c.args.self.now.configs) c.args.self.now.logs keeps.are_logs)
     (let own = keeps.have_logs.of_leaders c.in-Some.j c.index-3.result.now
@@ -77,11 +77,11 @@ returns-clause-answer g c =
     c.index-3.ensures in
     omega (arith, own, c.first.ensures.earlier))
     ∙ ap (λ x. effective_config (config_in (g.C.Configs.holds_config c.args.self.now.configs)) None x) c.first.ensures.first)
-    (rw c.deref-2.ensures.value at c.is_quorum.ensures c.in_ok-servers.ensures.distinct) c.if-not-is_quorum.false
-    c.commit.ensures _ (rw c.in_ok-note.ensures.rest at c.max-self.ensures) c.note.new.self.commits.items
+    (rw c.deref.ensures.value at c.is_quorum.ensures c.in_ok-servers.ensures.distinct) c.if-not-is_quorum.false
+    c.commit.ensures _ (rw c.in_ok-note.ensures.rest at c.max-self.ensures) c.note.new.self.commits
     (noted_have _ exact es c.args.len c.args.counted_at (kept_by c.args.self.now) c.in-Some.j c.index.result.now
-    c.note.new.self.commits.items (found_within _ _ _ (c.in-Some.ensures.place exact es keeps).place) c.index.ensures keeps
+    c.note.new.self.commits (found_within _ _ _ (c.in-Some.ensures.place exact es keeps).place) c.index.ensures keeps
     c.in_ok-note.ensures.noted)
     (noted_known _ exact es c.args.term c.args.leader c.args.len c.args.counted_at (kept_by c.args.self.now) c.in-Some.j
-    c.index.result.now c.note.new.self.commits.items (c.in-Some.ensures.place exact es keeps).place c.index.ensures keeps
+    c.index.result.now c.note.new.self.commits (c.in-Some.ensures.place exact es keeps).place c.index.ensures keeps
     c.in_ok-note.ensures.noted))

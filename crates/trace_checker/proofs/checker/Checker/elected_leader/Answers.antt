@@ -23,8 +23,8 @@ pub returns-then-not-is_elected-clause-place : goal.returns-then-not-is_elected-
 returns-then-not-is_elected-clause-place g c =
     λ exact es keeps. tallied_leader _ exact es c.args.term c.args.id (kept_by c.args.self.now) c.in-Some.j c.index-2.result.now
     c.is_elected.result (sym (c.in-Some.ensures.place exact.same_term keeps.placed)) c.index-2.ensures keeps
-    (λ within distinct. rw c.deref.ensures.value at (c.is_elected.ensures (exact_entries _ exact)
-    (logs_by (g.C.Configs.holds_config c.args.self.now.configs) c.args.self.now.logs keeps.are_logs) within distinct))
+    (λ within distinct. c.is_elected.ensures (exact_entries _ exact)
+    (logs_by (g.C.Configs.holds_config c.args.self.now.configs) c.args.self.now.logs keeps.are_logs) within distinct)
     ∙ c.if-not-is_elected.true
 
 pub returns-clause-place : goal.returns-clause-place
@@ -33,7 +33,7 @@ returns-clause-place g c =
       place = sym (c.in-Some.ensures.place exact.same_term keeps.placed);
       elected = tallied_leader _ exact es c.args.term c.args.id (kept_by c.args.self.now) c.in-Some.j c.index-2.result.now
           c.is_elected.result (sym (c.in-Some.ensures.place exact.same_term keeps.placed)) c.index-2.ensures keeps
-          (λ within distinct. rw c.deref.ensures.value at (c.is_elected.ensures (exact_entries _ exact)
-          (logs_by (g.C.Configs.holds_config c.args.self.now.configs) c.args.self.now.logs keeps.are_logs) within distinct))
+          (λ within distinct. c.is_elected.ensures (exact_entries _ exact)
+          (logs_by (g.C.Configs.holds_config c.args.self.now.configs) c.args.self.now.logs keeps.are_logs) within distinct)
           ∙ c.if-not-is_elected.false;
     }

@@ -102,8 +102,8 @@ returns-clause-answer g c =
     (sym (c.in-Some.ensures.place exact.same_term keeps.placed)) c.index_mut-leader.ensures.value
     (keeps_at _ exact es c.args.server (kept_by c.args.self.now) c.server_at.new.servers.items c.in_ok-i.i c.in_ok-i.ensures.at keeps)
     c.in_ok-vote.ensures.rest c.elect.ensures c.in_ok-vote.ensures.distinct
-    (λ within distinct. rw c.deref.ensures.value at (c.is_elected-elected.ensures (exact_entries _ exact)
-    (logs_by (g.C.Configs.holds_config c.args.self.now.configs) c.args.self.now.logs keeps.are_logs) within distinct)))
+    (λ within distinct. c.is_elected-elected.ensures (exact_entries _ exact)
+    (logs_by (g.C.Configs.holds_config c.args.self.now.configs) c.args.self.now.logs keeps.are_logs) within distinct))
     (voted_again _ exact c.index_mut-leader.result.now c.vote.new.self c.elect.new.self c.is_elected-elected.result
     c.in_ok-vote.ensures.rest c.elect.ensures)
 

@@ -1,15 +1,9 @@
-use Rattle.std.proofs.Common.{◌-◌, arith, inr, refl, take}
-use Rattle.trace_checker.proofs.lemmas.KnownLemmas.{replaced}
+use Rattle.trace_checker.specs.Inner.CheckerState.{same_entry_by}
+use Rattle.trace_checker.proofs.lemmas.UpToLemmas.{noted_up_to}
 use Rattle.trace_checker.proofs.checker.known.note_commit.Goals as goal
 
-pub returns-then-continues-clause-noted : goal.returns-then-continues-clause-noted
-returns-then-continues-clause-noted g c =
-    let ends = replaced c.args.commits.now.items c.len-count.result c.index.result.now c.args.commit
-    (omega arith) (omega arith) c.index.ensures in
-    inr (record {
-      earlier = take (c.len-count.result - 1) c.args.commits.now.items;
-      last = c.index.result.now;
-      continues = c.if-continues.ensures refl;
-      was = ends.0;
-      is = ends.1;
-    })
+pub invariant_of-commits-2 : goal.invariant_of-commits-2
+invariant_of-commits-2 g c =
+    noted_up_to (same_entry_by g.T.PartialEq.eq g.D.PartialEq.eq) c.args.logs.now c.commits.inside.greatest
+    c.max-commits-inside.result c.commits.inside.list.items c.note_in.new.commits.items c.args.commit
+    c.max-commits-inside.ensures c.in_ok-note_in.ensures.noted c.commits.invariant

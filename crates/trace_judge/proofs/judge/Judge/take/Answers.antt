@@ -1,10 +1,13 @@
+use Rattle.std.proofs.Common.{◌∙◌, length, sym}
+use Rattle.std.proofs.lemmas.Bool.{eqb-true}
+use Rattle.std.proofs.lemmas.List.{nil_from_length}
 use Rattle.std.proofs.lemmas.Result.{IfErr-weaker, on_ok_weaker}
 use Rattle.serde_json.specs.View.{view}
 use Rattle.trace_judge.specs.Filled.{IsFilledInFor}
 use Rattle.trace_judge.specs.Inner.Table.{numbering}
 use Rattle.trace_judge.specs.Inner.Taken.{IsBroken, Refuses, Stays}
 use Rattle.trace_judge.specs.Numbers.{number_tests}
-use Rattle.trace_judge.proofs.lemmas.RunLemmas.{fills_on, refuses, stays_both, stays_named, takes_line, takes_restored}
+use Rattle.trace_judge.proofs.lemmas.RunLemmas.{fills_on, refuses, stays_both, stays_named, takes_empty, takes_line, takes_restored}
 use Rattle.trace_judge.proofs.judge.Judge.take.Goals as goal
 
 pub returns-then-branch-clause-taken : goal.returns-then-branch-clause-taken
@@ -22,6 +25,11 @@ returns-then-branch-clause-broken c =
     IfErr-weaker c.take_restored.result (λ fault. IsBroken fault → ⊥)
     (λ fault. IsBroken fault → Refuses number_tests c.args.line.now c.args.self.now c.take_restored.new.self)
     (λ fault never broken. absurd (never broken)) c.take_restored.ensures.broken
+
+pub returns-then-is_empty-clause-taken : goal.returns-then-is_empty-clause-taken
+returns-then-is_empty-clause-taken c =
+    takes_empty number_tests c.args.line.now c.args.self.now (nil_from_length c.args.line.now
+    (eqb-true (length c.args.line.now) 0 (sym c.is_empty.ensures ∙ c.if-is_empty.true)))
 
 pub returns-clause-taken : goal.returns-clause-taken
 returns-clause-taken c =

@@ -10,7 +10,7 @@ returns-clause-count g c =
     rw (← c.self.view_is) (omega (arith, len))
 
 pub returns-clause-tree : goal.returns-clause-tree
-returns-clause-tree g c = are_tree c.self.inside.nodes.items c.args.self.now c.self.invariant c.self.view_is
+returns-clause-tree g c = are_tree c.self.inside.nodes.items c.args.self.now c.self.invariant.0 c.self.view_is
 
 pub returns-clause-empty : goal.returns-clause-empty
 returns-clause-empty g c = (no_node c.self.inside.nodes.items c.args.self.now 0 c.self.view_is (inl refl)).0

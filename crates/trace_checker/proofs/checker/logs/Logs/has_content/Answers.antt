@@ -1,16 +1,18 @@
-use Rattle.std.proofs.Common.{◌+◌, ◌<◌, ◌∙◌, arith, length, sym}
-use Rattle.trace_checker.specs.Inner.Logs.{log_at}
-use Rattle.trace_checker.proofs.lemmas.ContentLemmas.{lack_next, lack_not_last}
+use Rattle.std.proofs.Common.{◌∙◌, subst, sym}
+use Rattle.trace_checker.specs.Inner.Logs.{AllLogs, AreWithout}
+use Rattle.trace_checker.proofs.lemmas.ContentLemmas.{lack_nodes, no_node_of, not_both}
 use Rattle.trace_checker.proofs.checker.logs.Logs.has_content.Goals as goal
 
-pub returns-then-ends_with-clause-yes : goal.returns-then-ends_with-clause-yes
-returns-then-ends_with-clause-yes g c =
-    let within : c.loop-i.i + 1 < length c.args.self.now.logs = omega (arith, c.count-i-end.ensures.count) in
-    λ _ without. lack_not_last g.D.PartialEq.eq c.args.content (log_at c.args.self.now (c.loop-i.i + 1))
-    (without (c.loop-i.i + 1) within) (sym c.ends_with.ensures ∙ c.if-ends_with.true)
+pub returns-clause-yes : goal.returns-clause-yes
+returns-clause-yes g c =
+    let same = g.D.PartialEq.eq in
+    λ yes without. not_both c.contains.result yes
+    (c.contains.ensures ∙ c.self.invariant.1 c.args.content ∙ no_node_of same c.args.content c.self.inside.nodes.items
+    (subst (λ (t : AllLogs g.row.T.Denot g.row.D.Denot). AreWithout same t c.args.content) (sym c.self.view_is) without))
 
-pub loop-i-preserved : goal.loop-i-preserved
-loop-i-preserved g c =
-    let within : c.loop-i.i + 1 < length c.args.self.now.logs = omega (arith, c.count-i-end.ensures.count) in
-    λ j h. lack_next g.D.PartialEq.eq c.args.content c.args.self.now c.loop-i.i c.count-i-end.ensures.tree within
-    c.loop-i.invariant (sym c.ends_with.ensures ∙ c.if-ends_with.false) j h
+pub returns-clause-no : goal.returns-clause-no
+returns-clause-no g c =
+    let same = g.D.PartialEq.eq in
+    λ no. subst (λ (t : AllLogs g.row.T.Denot g.row.D.Denot). AreWithout same t c.args.content) c.self.view_is
+    (lack_nodes same c.args.content c.self.inside.nodes.items
+    (sym (c.self.invariant.1 c.args.content) ∙ sym c.contains.ensures ∙ no))
