@@ -17,7 +17,7 @@ use trace_checker::checker::Violation;
 struct Waiting {
     /// The place of the list.
     list: usize,
-    /// Since how many events the line waits.
+    /// How many events had been taken when the line began to wait.
     since: u64,
     /// The server that the line is of.
     actor: Option<u64>,

@@ -161,7 +161,8 @@ module _ {V Q D : Type 0} (same : D → D → Bool) (d : D) (items : V → List 
   held_nowhere (x ∷ xs) is = go (same x.0 d) (held_nowhere xs) is
     where
       go : (b : Bool)
-          → (None ≡ lookup (λ c. same c d) xs → [] ≡ held_by same d (map (λ p. (p.0, items p.1)) xs)) → None ≡ cond b (Some x.1) (lookup (λ c. same c d) xs)
+          → (None ≡ lookup (λ c. same c d) xs → [] ≡ held_by same d (map (λ p. (p.0, items p.1)) xs))
+          → None ≡ cond b (Some x.1) (lookup (λ c. same c d) xs)
           → [] ≡ (if b then items x.1 else held_by same d (map (λ p. (p.0, items p.1)) xs))
       go true rest h = absurd (cc)
       go false rest h = rest h
