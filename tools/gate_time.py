@@ -160,7 +160,7 @@ def write_page(table):
     spent = {phase: seconds / scale for phase, seconds in spent.items()}
     passed = re.search(r"^\W*passed on (.*) with (\d+) cores$", table, re.M)
     run, cores = (f"A whole run on {passed[1]}", f" on {passed[2]} cores.") if passed else (
-        "A run that did not pass", ". What it did not reach is not counted."
+        "A run that did not pass", ".\nWhat it did not reach is not counted."
     )
     said = [
         f"{run} took {whole / 60:.0f} minutes of processor time, and {wall / 60:.0f} minutes{cores}",
