@@ -283,7 +283,7 @@ def reference(modules, crate):
 THEOREMS = {
     "theorem": ("raft_progress", "replay", ("granted", "quorums", "changed_quorums", "ready"), ""),
     "run": ("steps_safety", "runs_are_safe", ("",), "steps_safety"),
-    "safe": ("trace_judge", "run", ("ended", "safe", "whole", "alone"), "trace_judge"),
+    "safe": ("trace_judge", "run", ("ended", "waits", "safe", "so_far", "whole", "alone"), "trace_judge"),
 }
 MARK = "<!-- tools/docs.py writes from here -->\n"
 IMPORT = re.compile(r"^(?:pub |ghost )*use ([\w.]+)\.\{(.*?)\}", re.M | re.S)

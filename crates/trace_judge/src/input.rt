@@ -45,7 +45,7 @@ impl<B: BufRead> Lines<B> {
     /// Reads the next line, unless one is pending. Returns whether one is pending then.
     pub(crate) fn has_next(&mut self) -> io::Result<bool>
         ensures pending { IfOk result (λ is_pending. self.new.reader.is_pending ≡ is_pending) }
-        ensures none_passed { IfOk result (λ _. read_of self.new ≡ read_of self.old) }
+        ensures none_passed { read_of self.new ≡ read_of self.old }
         ensures known { IfOk result (λ _. KeepsLines B.remaining self.old.reader self.new.reader) }
         ensures waits { self.old.reader.is_pending ≡ true → self.new.reader ≡ self.old.reader }
     {
@@ -77,7 +77,8 @@ impl<B> Lines<B> {
 
     /// Whether the list was read to its end, and no line is pending.
     pub(crate) fn is_ended(&self) -> bool
-        ensures { IsTrue result → IsReadToEnd self.now }
+        ensures ended { IsTrue result → IsReadToEnd self.now }
+        ensures if_ended { IsReadToEnd self.now → IsTrue result }
     {
         self.reader.is_at_end()
     }

@@ -66,6 +66,7 @@ pub fn run<B: BufRead>(
     answer: &mut String,
 ) -> u8
     ensures ended { result ≡ 0 → All IsReadToEnd lists.new }
+    ensures waits { result ≡ 1 → All IsReadToEnd lists.new → ⊥ }
     ensures safe { result ≡ 0 →
         HaveSafeMerge number_tests [] (map read_of lists.old) (map read_of lists.new) }
     ensures so_far { result ≤ 1 → (waiting : List (List ℕ)) → All (WaitsWith waiting) lists.new →
@@ -94,6 +95,7 @@ fn judge_lists<B: BufRead>(
     answer: &mut String,
 ) -> Result<u8, AllocError>
     ensures ended { IfOk result (λ status. status ≡ 0 → All IsReadToEnd lists.new) }
+    ensures waits { IfOk result (λ status. status ≡ 1 → All IsReadToEnd lists.new → ⊥) }
     ensures safe { IfOk result (λ status. status ≤ 1 → (waiting : List (List ℕ)) →
         All (WaitsWith waiting) lists.new →
         HaveSafeMerge number_tests waiting (map read_of lists.old) (map read_of lists.new)) }
@@ -262,7 +264,8 @@ fn take_line(
 
 /// Whether all lists are at their end.
 fn are_ended<B>(lists: &[Lines<B>]) -> bool
-    ensures { IsTrue result → All IsReadToEnd lists.now }
+    ensures ended { IsTrue result → All IsReadToEnd lists.now }
+    ensures if_ended { All IsReadToEnd lists.now → IsTrue result }
 {
     for list in lists {
         if !list.is_ended() {
@@ -280,7 +283,8 @@ fn push_verdict<B>(
     lists: &[Lines<B>],
     judge: &mut Judge,
 ) -> Result<u8, AllocError>
-    ensures { IfOk result (λ status. status ≡ 0 → All IsReadToEnd lists.now) }
+    ensures ended { IfOk result (λ status. status ≡ 0 → All IsReadToEnd lists.now) }
+    ensures waits { IfOk result (λ status. status ≡ 1 → All IsReadToEnd lists.now → ⊥) }
 {
     if !are_ended(lists) {
         judge.chart.push_refused_to(answer)?;

@@ -45,10 +45,11 @@ impl<B: BufRead> LineReader<B> {
     /// Reads the next line, unless one is pending. Returns whether one is pending then. If none is,
     /// the reader has passed the last line.
     ///
-    /// Returns an error if the input cannot be read, or if there is no memory for the line.
+    /// Returns an error if the input cannot be read, or if there is no memory for the line. What was
+    /// passed stays as it was.
     pub fn has_next(&mut self) -> io::Result<bool>
         ensures pending { IfOk result (λ is_pending. self.new.is_pending ≡ is_pending) }
-        ensures none_passed { IfOk result (λ _. lines_read self.new ≡ lines_read self.old) }
+        ensures none_passed { lines_read self.new ≡ lines_read self.old }
         ensures known { IfOk result (λ _. KeepsLines B.remaining self.old self.new) }
         ensures waits { self.old.is_pending ≡ true → self.new ≡ self.old }
     {
@@ -74,7 +75,8 @@ impl<B: BufRead> LineReader<B> {
 impl<B> LineReader<B> {
     /// Whether the last line was passed.
     pub fn is_at_end(&self) -> bool
-        ensures { IsTrue result → IsAtEnd self.now }
+        ensures at_end { IsTrue result → IsAtEnd self.now }
+        ensures if_at_end { IsAtEnd self.now → IsTrue result }
     {
         !self.is_pending && self.is_last
     }

@@ -134,6 +134,7 @@ fn lines_of(rt: &HostRuntime, source: Source, name: Option<String>) -> io::Resul
 /// status. If it is 0, the lists were read to their ends, and what was read is a safe run.
 fn judge_lists(rt: &HostRuntime, lists: &mut [SourceLines], is_drawn: bool) -> io::Result<u8>
     ensures ended { IfOk result (λ status. status ≡ 0 → All IsReadToEnd lists.new) }
+    ensures waits { IfOk result (λ status. status ≡ 1 → All IsReadToEnd lists.new → ⊥) }
     ensures safe { IfOk result (λ status. status ≡ 0 →
         HaveSafeMerge number_tests [] (map read_of lists.old) (map read_of lists.new)) }
     ensures so_far { IfOk result (λ status. status ≤ 1 → (waiting : List (List ℕ)) →

@@ -2,7 +2,6 @@
 use Rattle.std.specs.Prelude.{◌≡◌, ◌⊎◌, ℕ, Bool, true, false, if◌then◌else◌, List, [], ◌∷◌, ◌++◌, Option, Some, None, codes, get_or}
 use Rattle.std.proofs.Common.{refl, sym, ap, subst, ◌∙◌, inl, inr, append_assoc, arith}
 use Rattle.serde_json.specs.Data.{Data}
-use Rattle.serde_json.specs.Find.{get}
 use Rattle.serde_json.specs.Read.{read}
 use Rattle.safety_laws.specs.Ranks.{IsAmong}
 use Rattle.safety_laws.specs.Trace.{TraceEvent, Campaigned, Granted, Appended, Acked, Restarted, Wrote, Committed, Applied, leader_log_in}
@@ -10,7 +9,7 @@ use Rattle.trace_judge.specs.Fields.{IsNamed}
 use Rattle.trace_judge.specs.Filled.{AddsEach, HoldAfter, IsFilledIn, IsFilledInFor, IsRestoredFor}
 use Rattle.trace_judge.specs.Inner.Reading.{IsMissing, TakesUpTo}
 use Rattle.trace_judge.specs.Line.{Says}
-use Rattle.trace_judge.specs.Logs.{EndsInTerm, HasLeaderEntries}
+use Rattle.trace_judge.specs.Logs.{EndsInTerm}
 use Rattle.trace_judge.specs.Names.{Numbering}
 use Rattle.trace_judge.specs.Numbers.{log_tests}
 use Rattle.trace_judge.specs.Run.{Held, IsTraceOf}
@@ -153,30 +152,3 @@ restores number_of first d es e s t c len up missing says ends =
       subst (λ (x : TraceEvent ℕ ℕ ℕ). IsMissing es x) up.1.1 missing,
       subst (λ (k : ℕ). EndsInTerm d k (leader_log_in log_tests es t c)) sum ends,
     )
-
--- ---- what a line says of logs
-
--- the missing entries of a leader are those of a snapshot
-pub missing_fit : (es : List (TraceEvent ℕ ℕ ℕ)) (d : Data) (e : TraceEvent ℕ ℕ ℕ) → IsMissing es e
-    → HasLeaderEntries es d e
-missing_fit es d (Campaigned s t) h = tt
-missing_fit es d (Granted s t c) h = tt
-missing_fit es d (Appended s t c n sent) h = λ none. h
-missing_fit es d (Acked s t c n) h = tt
-missing_fit es d (Restarted s n) h = tt
-missing_fit es d (Wrote c t e) h = tt
-missing_fit es d (Committed c t n m) h = tt
-missing_fit es d (Applied s t c n) h = tt
-
--- a line that is of no snapshot need not say the entries of a leader
-pub said_fit : (number_of : Numbering) (first : ℕ) (es : List (TraceEvent ℕ ℕ ℕ)) (d : Data) (e : TraceEvent ℕ ℕ ℕ)
-    → (IsNamed (codes "appended") d → get (codes "entries") d ≡ None → ⊥) → Says number_of first d e
-    → HasLeaderEntries es d e
-said_fit number_of first es d (Campaigned s t) no_snapshot says = tt
-said_fit number_of first es d (Granted s t c) no_snapshot says = tt
-said_fit number_of first es d (Appended s t c n sent) no_snapshot says = λ none. absurd (no_snapshot says.0 none)
-said_fit number_of first es d (Acked s t c n) no_snapshot says = tt
-said_fit number_of first es d (Restarted s n) no_snapshot says = tt
-said_fit number_of first es d (Wrote c t e) no_snapshot says = tt
-said_fit number_of first es d (Committed c t n m) no_snapshot says = tt
-said_fit number_of first es d (Applied s t c n) no_snapshot says = tt

@@ -27,12 +27,6 @@ use Rattle.trace_judge.proofs.lemmas.FillLemmas.{adds_weaker}
 
 -- ---- a longer table
 
-pub learns_none : (names : Names) → Learns names names
-learns_none names = (λ a n is. is, λ table. table)
-
-pub learns_more : (old now new : Names) → Learns old now → Learns now new → Learns old new
-learns_more old now new one two = (λ a n is. two.0 a n (one.0 a n is), λ table. two.1 (one.1 table))
-
 -- a name that has no number gets the next one
 module _ (old new : Names) (a : Name) (no_number : numbering old a ≡ None)
     (gets : numbering new a ≡ Some old.next) (others : (b : Name) → (b ≡ a) ⊎ (numbering new b ≡ numbering old b))

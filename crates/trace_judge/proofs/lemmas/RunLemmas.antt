@@ -3,9 +3,8 @@ use Rattle.std.specs.Prelude.{◌≡◌, ◌<◌, ℕ, nat_eq, length, get_or, B
 use Rattle.std.specs.Borrow.{Bor}
 use Rattle.std.specs.Map.{lookup}
 use Rattle.std.specs.Option.{option_copied, unwrap_or}
-use Rattle.std.proofs.Common.{refl, sym, ap, subst, ◌∙◌, inl, inr, append_assoc, arith, zero, suc}
+use Rattle.std.proofs.Common.{refl, sym, ap, subst, ◌∙◌, inl, inr, arith, zero, suc}
 use Rattle.std.proofs.lemmas.Bool.{eqb-true}
-use Rattle.std.proofs.lemmas.List.Elements.{All-append, All-cons, All-nil}
 use Rattle.std.specs.Global.{Vec}
 use Rattle.serde_json.specs.Data.{Data}
 use Rattle.serde_json.specs.Read.{read}
@@ -19,7 +18,6 @@ use Rattle.trace_judge.specs.Filled.{AddsEach, FillsIn, IsFilledIn, IsFilledInFo
 use Rattle.trace_judge.specs.Inner.Table.{IsTable, Learns, numbering}
 use Rattle.trace_judge.specs.Inner.Taken.{FillsBy, FillsFor, GoesOn, HasTaken, IsStarted, KeepsMore, KeepsTrace, Refuses, RestoresFor, Stays, Takes, TakesEvent, TakesSaid, held_by, tests_for}
 use Rattle.trace_judge.specs.Inner.Votes.{AreVotesIn}
-use Rattle.trace_judge.specs.Line.{Says}
 use Rattle.trace_judge.specs.Names.{Numbering}
 use Rattle.trace_judge.specs.Run.{Adds, AddsLine, AddsMembership, Held, IsTraceOf, SaysMembership, SaysStart}
 use Rattle.trace_judge.specs.declared.chart.Chart.{Chart}

@@ -10,10 +10,10 @@ returns-in-Ok-take_lines-clause-safe g c =
     c.args.lists.now c.begin.new.lists c.take_lines.new.lists
     c.in-Ok.begun.0.items c.in-Ok.begun.1 c.take_lines.new.judge c.in-Ok.ensures.begins
     (rw c.deref.ensures.value at c.in-Ok-take_lines.ensures.judged) in
-    IfOk-weaker c.push_verdict.result _ _ (λ status ended low waiting all. safe waiting all) c.push_verdict.ensures
+    IfOk-weaker c.push_verdict.result _ _ (λ status ended low waiting all. safe waiting all) c.push_verdict.ensures.ended
 
 pub returns-in-Ok-take_lines-clause-known : goal.returns-in-Ok-take_lines-clause-known
 returns-in-Ok-take_lines-clause-known g c =
     IfOk-weaker c.push_verdict.result _ _
     (λ status ended low all known. c.in-Ok-take_lines.ensures.known all (c.in-Ok.ensures.known all known))
-    c.push_verdict.ensures
+    c.push_verdict.ensures.ended

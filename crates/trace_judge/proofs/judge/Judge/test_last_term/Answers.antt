@@ -1,5 +1,5 @@
 use Rattle.std.specs.Prelude.{IfSome, codes}
-use Rattle.std.proofs.Common.{Option, Some, None, ap, inr, subst, sym, ℕ, ◌≡◌, ◌∙◌}
+use Rattle.std.proofs.Common.{Option, Some, ap, inr, subst, sym, ℕ, ◌≡◌, ◌∙◌}
 use Rattle.serde_json.specs.View.{view}
 use Rattle.safety_laws.specs.Log.{Entry}
 use Rattle.trace_judge.specs.Fields.{number_in}
