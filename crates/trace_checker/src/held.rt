@@ -94,10 +94,11 @@ impl<N: Copy + Ord, D: Copy + Ord> Held<N, D> {
         Ok(())
     }
 
-    /// Removes the last membership.
+    /// Removes the last membership, if there is one.
     pub fn pop(&mut self)
-        ensures { (before : List (D × Vec (Vec N))) → (m : D × Vec (Vec N)) →
+        ensures last { (before : List (D × Vec (Vec N))) → (m : D × Vec (Vec N)) →
             self.old.items ≡ before ++ m ∷ [] → self.new.items ≡ before }
+        ensures none { self.old.items ≡ [] → self.new.items ≡ [] }
     {
         let Some(content) = self.last_content() else {
             return;

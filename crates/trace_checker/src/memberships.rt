@@ -87,10 +87,11 @@ impl<N: Copy + Ord, D: Copy + Ord> Memberships<N, D> {
         self.held.last_content()
     }
 
-    /// Removes the membership that was added last.
+    /// Removes the membership that was added last, if there is one.
     pub fn remove_last(&mut self)
         ensures held { (before : List (D × Vec (Vec N))) → (m : D × Vec (Vec N)) →
             self.old.held.items ≡ before ++ m ∷ [] → self.new.held.items ≡ before }
+        ensures none { self.old.held.items ≡ [] → self.new.held.items ≡ [] }
         ensures initial { self.new.initial ≡ self.old.initial }
     {
         self.held.pop();

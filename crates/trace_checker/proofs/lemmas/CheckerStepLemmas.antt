@@ -126,67 +126,27 @@ module _ {D : Type 0} (holds : D → Bool) where
 module _ {T N D : Type 0} where
   -- other servers, another server or another leader
   abbrev pub with_servers : Parts T N D → List (Server N) → Parts T N D
-  with_servers p new = record {
-    counting = p.counting;
-    logs = p.logs;
-    servers = new;
-    leaders = p.leaders;
-    places = p.places;
-    committed = p.committed;
-    commits = p.commits;
-  }
+  with_servers p new = record p { servers = new }
 
   abbrev pub with_server : Parts T N D → ℕ → Server N → Parts T N D
   with_server p i s = with_servers p (set p.servers i s)
 
   abbrev pub with_leaders : Parts T N D → List (Leader T N) → Parts T N D
-  with_leaders p new = record {
-    counting = p.counting;
-    logs = p.logs;
-    servers = p.servers;
-    leaders = new;
-    places = p.places;
-    committed = p.committed;
-    commits = p.commits;
-  }
+  with_leaders p new = record p { leaders = new }
 
   abbrev pub with_leader : Parts T N D → ℕ → Leader T N → Parts T N D
   with_leader p j l = with_leaders p (set p.leaders j l)
 
   -- another number of entries such that no leader has committed more
   abbrev pub with_committed : Parts T N D → ℕ → Parts T N D
-  with_committed p n = record {
-    counting = p.counting;
-    logs = p.logs;
-    servers = p.servers;
-    leaders = p.leaders;
-    places = p.places;
-    committed = n;
-    commits = p.commits;
-  }
+  with_committed p n = record p { committed = n }
 
   -- other commits by which configs are known
   abbrev pub with_commits : Parts T N D → List Commit → Parts T N D
-  with_commits p new = record {
-    counting = p.counting;
-    logs = p.logs;
-    servers = p.servers;
-    leaders = p.leaders;
-    places = p.places;
-    committed = p.committed;
-    commits = new;
-  }
+  with_commits p new = record p { commits = new }
 
   abbrev pub with_places : Parts T N D → List (ℕ × (ℕ × ℕ)) → Parts T N D
-  with_places p new = record {
-    counting = p.counting;
-    logs = p.logs;
-    servers = p.servers;
-    leaders = p.leaders;
-    places = new;
-    committed = p.committed;
-    commits = p.commits;
-  }
+  with_places p new = record p { places = new }
 
   have_server : (p : Parts T N D) (i : ℕ) (new : Server N) → HaveLogs p → i < length p.servers
       → new.log < length p.logs.logs → HaveLogs (with_server p i new)
