@@ -103,7 +103,3 @@ last_is l some =
     sym (term_from 0 l (length l - 1) (omega arith))
     ∙ ap (last_term number)
     (ap (λ (n : ℕ). take n (entries_of l)) e ∙ take_all (length (entries_of l)) (entries_of l) (omega arith))
-
-pub last_of_none : (l : List LogEntry) → length l ≡ 0 → 0 ≡ last_term number (entries_of l)
-last_of_none [] e = refl
-last_of_none (x ∷ l) e = absurd (omega arith)
